@@ -52,6 +52,15 @@ REFUSED = [
     ("0 x s 0\ndone 0 0\n", 1),
     ("0 18446744073709551616 s 0\ndone 0 0\n", 1),
     ("0 0 s 0\ndone 0 x\n", 2),
+    # a line of the moment of the line before
+    ("0 0 s 0\n5 0 s 1\n5 0 s 2\ndone 2 2\n", 3),
+    ("0 0 s 0\n5 0 s 1\n5 0 s\ndone 2 2\n", 3),
+    ("0 0 s 0\n5 0 s 1\n5 0 \ndone 2 2\n", 3),
+    ("0 0 s 0\n5 0 s 1\n5 0 r 0\ndone 2 2\n", 3),
+    ("0 0 s 0\n5 0 s 1\n5 0  s 0\ndone 2 2\n", 3),
+    # a name that differs from one of the same length in its first, middle or last letter
+    *((f"0 0 abcdefghijklmnopqrst 0\n5 0 {it} 1\ndone 1 1\n", 2) for it in ("bbcdefghijklmnopqrst", "abcdefghiiklmnopqrst", "abcdefghijklmnopqrss")),
+    *((f"0 0 abcde 0\n5 0 {it} 1\ndone 1 1\n", 2) for it in ("bbcde", "abdde", "abcdd", "abcdef", "abcd")),
 ]
 # a map that is refused, and what is told
 MAPS = [

@@ -1,12 +1,11 @@
 //! A listing, as a side of the comparison.
 
-use crate::bits::{Offers, owned, push};
+use crate::bits::{Offers, push};
 use crate::change::{BATCH, Change};
-use indexmap::IndexSet;
 use std::alloc::{AllocError, Global};
 use std::fs::File;
 use vsim_waves_listing::{
-    Fault, Line, MapBit, Moment, Pieces, SourceMap, Variable, is_name, read_line,
+    Fault, Line, LineReader, MapBit, Moment, Names, Pieces, SourceMap, Variable, is_name,
 };
 
 /// The refusal of a line.
@@ -25,8 +24,9 @@ struct Pending {
 /// A listing, of which the nets with their first values are read, and one change more.
 pub struct Listing {
     pieces: Pieces<File>,
+    lines: LineReader,
     is_settled: bool,
-    names: IndexSet<Vec<u8>>,
+    names: Names,
     first: Vec<u8>,
     pending: Option<Pending>,
     last: Moment,
@@ -38,6 +38,7 @@ impl Drop for Listing {
     fn drop(self) {
         let Listing {
             pieces,
+            lines,
             is_settled: _,
             names,
             first,
@@ -46,6 +47,7 @@ impl Drop for Listing {
             is_done: _,
         } = self;
         drop(pieces);
+        drop(lines);
         drop(names);
         drop(first);
     }
@@ -56,18 +58,14 @@ fn is_first(at: Moment) -> bool {
     at.time == 0 && at.delta == 0
 }
 
-/// Adds a name; `false` if it is there already.
-fn add_name(alloc: Global, names: &mut IndexSet<Vec<u8>>, name: &[u8]) -> Result<bool, AllocError> {
-    Ok(names.insert(owned(alloc, name)?)?)
-}
-
 impl Listing {
     /// A listing of which nothing was read.
     pub fn new(alloc: Global, pieces: Pieces<File>) -> Listing {
         Listing {
             pieces,
+            lines: LineReader::new(alloc),
             is_settled: false,
-            names: IndexSet::new(alloc),
+            names: Names::new(alloc),
             first: Vec::new(alloc),
             pending: None,
             last: Moment { time: 0, delta: 0 },
@@ -101,9 +99,9 @@ impl Listing {
 
     /// Takes a line of the head, or the first one behind it.
     fn take_head(&mut self, alloc: Global) -> Result<(), Fault> {
-        match read_line(self.pieces.piece()) {
+        match self.lines.read(self.pieces.piece()) {
             Some(Line::Change { at, name, value }) if is_first(at) => {
-                if !is_name(name) || !add_name(alloc, &mut self.names, name)? {
+                if !is_name(name) || !self.names.add(alloc, name)? {
                     return Err(Fault::Refused(NO_LINE));
                 }
                 Ok(push(&mut self.first, value)?)
@@ -114,7 +112,7 @@ impl Listing {
 
     /// Goes on to the next line, which has to be there.
     fn go_on(&mut self) -> Result<(), Fault> {
-        if self.pieces.next_line()? {
+        if self.pieces.see_line() || self.pieces.next_line()? {
             Ok(())
         } else {
             Err(Fault::Refused(NO_END))
@@ -123,9 +121,9 @@ impl Listing {
 
     /// Takes the line of a change, or the last one.
     fn take(&mut self) -> Result<(), Fault> {
-        match read_line(self.pieces.piece()) {
+        match self.lines.read(self.pieces.piece()) {
             Some(Line::Change { at, name, value }) if at >= self.last && !is_first(at) => {
-                let Some(signal) = self.names.get_index_of(name) else {
+                let Some(signal) = self.names.find(name) else {
                     return Err(Fault::Refused(NO_LINE));
                 };
                 self.expect(at, signal, value);
@@ -199,7 +197,7 @@ impl Listing {
     /// Its own nets.
     fn own(&self, alloc: Global) -> Result<Offers, AllocError> {
         let mut offers = Offers::new(alloc);
-        for (signal, name) in self.names.iter().enumerate() {
+        for (signal, name) in self.names.all().iter().enumerate() {
             offers.offer(alloc, name.as_slice(), &[MapBit::Signal(signal)])?;
         }
         Ok(offers)
@@ -235,7 +233,7 @@ impl Listing {
             return Ok(bit);
         };
         let signal = match map.signals.get_index(place) {
-            Some(name) => self.names.get_index_of(name.as_str().as_bytes()),
+            Some(name) => self.names.find(name.as_str().as_bytes()),
             None => None,
         };
         match signal {

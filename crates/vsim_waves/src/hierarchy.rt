@@ -8,12 +8,12 @@ const FIRST_BYTE: u8 = b'!';
 
 const BYTES: usize = 94;
 
-/// The most bytes of a value of one bit, its identifier, and a line feed.
-const LONGEST: usize = 16;
+/// The most bytes of an identifier.
+const LONGEST: usize = 10;
 
 /// Puts the identifier of the net with a number behind what precedes a place: digits to base 94, the
 /// lowest first. Returns the place behind it.
-fn put_identifier(bytes: &mut [u8], place: usize, number: usize) -> usize {
+pub fn put_identifier(bytes: &mut [u8], place: usize, number: usize) -> usize {
     let (mut left, mut place) = (number, place);
     for _ in 0..usize::BITS {
         if let Some(byte) = bytes.get_mut(place) {
@@ -33,16 +33,6 @@ pub fn write_identifier<W: Write>(out: &mut W, number: usize) -> io::Result<()> 
     let mut bytes = [0; LONGEST];
     let end = put_identifier(&mut bytes, 0, number);
     out.write_all(bytes.get(..end).unwrap_or(&[]))
-}
-
-/// Writes the value of one bit of the net with a number, in a line.
-pub fn write_bit<W: Write>(out: &mut W, letter: u8, number: usize) -> io::Result<()> {
-    let mut bytes = [letter; LONGEST];
-    let end = put_identifier(&mut bytes, 1, number);
-    if let Some(byte) = bytes.get_mut(end) {
-        *byte = b'\n';
-    }
-    out.write_all(bytes.get(..end.saturating_add(1)).unwrap_or(&[]))
 }
 
 /// The path of a name, which is empty at the top, and its last label.
@@ -99,10 +89,10 @@ pub fn declare_in<W: Write>(
 
 /// Writes the scopes and variables of these nets. A listing has them path by path, so that each
 /// scope is entered once.
-pub fn write_nets<W: Write>(out: &mut W, names: &IndexSet<String>) -> io::Result<()> {
+pub fn write_nets<W: Write>(out: &mut W, names: &IndexSet<Vec<u8>>) -> io::Result<()> {
     let mut last = "";
     for (number, name) in names.iter().enumerate() {
-        let (path, label) = parts(name.as_str());
+        let (path, label) = parts(str::from_utf8(name.as_slice()).unwrap_or(""));
         declare_in(out, last, path, number, 1, label)?;
         last = path;
     }

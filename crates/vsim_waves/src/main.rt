@@ -5,6 +5,7 @@
 //! the source of a netlist, and with `--svg` the waves are a picture.
 #![tactic(auto)]
 
+mod draft;
 mod hierarchy;
 mod options;
 mod vectors;
@@ -18,7 +19,7 @@ use std::alloc::Global;
 use std::io::{self, BufWriter, Read, Write, writer};
 use std::process::ExitCode;
 use std::{env, fs};
-use vsim_waves_listing::{Fault, Line, Moment, Pieces, SourceMap, read_line, read_map};
+use vsim_waves_listing::{Fault, Line, LineReader, Moment, Pieces, SourceMap, read_map};
 use vsim_waves_picture::{Recording, Window};
 
 /// The text of `--version`. The script `build` fills in the sources and the toolchain in its copy.
@@ -77,7 +78,7 @@ impl View<'_> {
         value: u8,
     ) -> Result<bool, Fault> {
         match self {
-            View::Nets(waves) => Ok(waves.change(alloc, out, at, name, value)?),
+            View::Nets(waves) => Ok(waves.change(alloc, out, at, name.as_bytes(), value)?),
             View::Source(vectors) => Ok(vectors.change(out, at, name, value)?),
             View::Picture(recording) => recording.change(at, name, value),
         }
@@ -89,6 +90,14 @@ impl View<'_> {
             View::Nets(waves) => Ok(waves.end(out)?),
             View::Source(vectors) => Ok(vectors.end(out)?),
             View::Picture(recording) => recording.end(),
+        }
+    }
+
+    /// Writes what was put together so far.
+    fn flush<W: Write>(&mut self, out: &mut W) -> io::Result<()> {
+        match self {
+            View::Nets(waves) => waves.flush(out),
+            View::Source(_) | View::Picture(_) => Ok(()),
         }
     }
 
@@ -115,9 +124,9 @@ fn take_line<W: Write>(
     alloc: Global,
     view: &mut View<'_>,
     out: &mut W,
-    line: &[u8],
+    line: Option<Line<'_>>,
 ) -> Result<bool, Fault> {
-    match read_line(line) {
+    match line {
         None => Ok(false),
         Some(Line::Done) => view.end(out),
         Some(Line::Change { at, name, value }) => match str::from_utf8(name) {
@@ -136,7 +145,12 @@ fn error_of(fault: Fault) -> anyhow::Error {
 }
 
 /// Takes a line of a listing, or ends with an error if it is none.
-fn take<W: Write>(alloc: Global, view: &mut View<'_>, out: &mut W, line: &[u8]) -> Result<()> {
+fn take<W: Write>(
+    alloc: Global,
+    view: &mut View<'_>,
+    out: &mut W,
+    line: Option<Line<'_>>,
+) -> Result<()> {
     match take_line(alloc, view, out, line) {
         Ok(true) => Ok(()),
         Ok(false) => bail!("this is not a line of a listing, or not in its place"),
@@ -147,10 +161,39 @@ fn take<W: Write>(alloc: Global, view: &mut View<'_>, out: &mut W, line: &[u8]) 
 /// Goes on to the next line; `false` at the end. A listing that may be cut short ends before a line
 /// that lacks its line feed.
 fn next_line<R: Read>(input: &mut Pieces<R>, is_partial: bool) -> Result<bool> {
+    if input.see_line() {
+        return Ok(true);
+    }
     match input.next_line() {
         Ok(is_there) => Ok(is_there && (input.is_ended() || !is_partial)),
         Err(fault) => Err(error_of(fault)),
     }
+}
+
+/// Takes the change of a line, unless something is to be written or refused first; `false` if it was
+/// not taken.
+fn take_known(waves: &mut Waves, line: Option<Line<'_>>) -> bool {
+    match line {
+        Some(Line::Change { at, name, value }) => waves.take(at, name, value),
+        Some(Line::Done) | None => false,
+    }
+}
+
+/// Takes the next lines that are in the block of the stream, up to one that is not taken, which is
+/// then seen; `false` if there is no such line.
+fn take_block<R: Read>(view: &mut View<'_>, input: &mut Pieces<R>, lines: &mut LineReader) -> bool {
+    let View::Nets(waves) = view else {
+        return false;
+    };
+    for _ in 0..u64::MAX {
+        if !input.see_line() {
+            break;
+        }
+        if !take_known(waves, lines.read(input.piece())) {
+            return true;
+        }
+    }
+    false
 }
 
 /// Writes the waves of a listing, line by line.
@@ -161,12 +204,14 @@ fn write_lines<R: Read, W: Write>(
     view: &mut View<'_>,
     is_partial: bool,
 ) -> Result<()> {
+    let mut lines = LineReader::new(alloc);
     for _ in 0..u64::MAX {
-        if !next_line(input, is_partial)? {
+        if !take_block(view, input, &mut lines) && !next_line(input, is_partial)? {
             break;
         }
         let number = input.lines();
-        take(alloc, view, out, input.piece()).context(format_args!("line {number}"))?;
+        let line = lines.read(input.piece());
+        take(alloc, view, out, line).context(format_args!("line {number}"))?;
     }
     Ok(())
 }
@@ -228,7 +273,7 @@ fn view_of_nets<'a>(alloc: Global, options: &Options<'a>) -> Result<View<'a>> {
         return Ok(View::Picture(Box::new(alloc, recording)?));
     }
     let scope = String::from_str(alloc, options.scope.unwrap_or("top"))?;
-    Ok(View::Nets(Waves::new(alloc, options.has_deltas, scope)))
+    Ok(View::Nets(Waves::new(alloc, options.has_deltas, scope)?))
 }
 
 /// The view that a listing is turned into by a map.
@@ -270,6 +315,19 @@ fn write_input<W: Write>(
     finish(view, out, is_partial)
 }
 
+/// Writes the waves of the listing on standard input, up to a line that is refused.
+fn write_all<W: Write>(
+    rt: &HostRuntime,
+    view: &mut View<'_>,
+    out: &mut W,
+    is_partial: bool,
+) -> Result<()> {
+    let made = write_input(rt, view, out, is_partial);
+    let flushed = view.flush(out);
+    made?;
+    flushed.context("writing")
+}
+
 /// Writes the waves of the listing on standard input, or the picture.
 fn write_view<W: Write>(
     rt: &HostRuntime,
@@ -277,7 +335,7 @@ fn write_view<W: Write>(
     out: &mut W,
     is_partial: bool,
 ) -> Result<()> {
-    write_input(rt, view, out, is_partial)?;
+    write_all(rt, view, out, is_partial)?;
     view.draw(out).context("writing")
 }
 

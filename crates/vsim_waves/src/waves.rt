@@ -1,10 +1,10 @@
 //! The values of nets over time.
 
-use crate::hierarchy::{write_bit, write_nets};
-use indexmap::IndexSet;
+use crate::draft::{Change, Draft, ROOM};
+use crate::hierarchy::write_nets;
 use std::alloc::{AllocError, Global};
 use std::io::{self, Write};
-use vsim_waves_listing::{Moment, is_name};
+use vsim_waves_listing::{Moment, Names, is_name};
 
 /// How far a listing has been read.
 #[derive(Clone, Copy, PartialEq, Eq)]
@@ -22,6 +22,7 @@ enum Stage {
 struct Shown {
     value: u8,
     written: u8,
+    change: Change,
 }
 
 /// The part of a listing that has been read. All changes before the last time are written.
@@ -30,13 +31,14 @@ pub struct Waves {
     has_deltas: bool,
     scope: String,
     stage: Stage,
-    names: IndexSet<String>,
+    names: Names,
     nets: Vec<Shown>,
     /// The nets that changed at the last moment, possibly more than once.
     changed: Vec<usize>,
     last: Moment,
     /// The last time that was written.
     stamp: Option<u64>,
+    draft: Draft,
 }
 
 /// Writes what precedes the nets.
@@ -45,49 +47,55 @@ fn write_head<W: Write>(out: &mut W, scope: &str) -> io::Result<()> {
     writeln!(out, "$scope module {scope} $end")
 }
 
-/// Writes the value of a net: `0`, `1`, `x` and `z` as usual in a VCD, the others in the same way.
-fn write_value<W: Write>(out: &mut W, number: usize, value: u8) -> io::Result<()> {
-    write_bit(out, value.to_ascii_lowercase(), number)
-}
-
-/// Writes the value of a net, if it differs from the value written last.
-fn write_change<W: Write>(out: &mut W, nets: &mut Vec<Shown>, number: usize) -> io::Result<()> {
+/// Puts the value of a net, if it differs from the value put last: `0`, `1`, `x` and `z` as usual in
+/// a VCD, the others in the same way.
+fn put_change(draft: &mut Draft, nets: &mut Vec<Shown>, number: usize) {
     let Some(net) = nets.get_mut(number) else {
-        return Ok(());
+        return;
     };
-    if net.written == net.value {
-        return Ok(());
+    if net.written != net.value {
+        net.written = net.value;
+        net.change.set(net.value.to_ascii_lowercase());
+        draft.put_change(&net.change);
     }
-    net.written = net.value;
-    let value = net.value;
-    write_value(out, number, value)
 }
 
-/// Writes the values of these nets.
+/// Puts the values of these nets, which have room.
+fn put_changes(draft: &mut Draft, nets: &mut Vec<Shown>, changed: &[usize]) {
+    for number in changed {
+        put_change(draft, nets, *number);
+    }
+}
+
+/// Writes the values of these nets, behind what was put, which is a time at most.
 fn write_changes<W: Write>(
     out: &mut W,
+    draft: &mut Draft,
     nets: &mut Vec<Shown>,
     changed: &[usize],
 ) -> io::Result<()> {
-    for number in changed {
-        write_change(out, nets, *number)?;
+    for part in changed.chunks(ROOM) {
+        put_changes(draft, nets, part);
+        draft.flush(out)?;
     }
     Ok(())
 }
 
 impl Waves {
     /// Waves of which nothing has been read.
-    pub fn new(alloc: Global, has_deltas: bool, scope: String) -> Waves {
-        Waves {
+    pub fn new(alloc: Global, has_deltas: bool, scope: String) -> Result<Waves, AllocError> {
+        let draft = Draft::new(alloc)?;
+        Ok(Waves {
             has_deltas,
             scope,
             stage: Stage::Names,
-            names: IndexSet::new(alloc),
+            names: Names::new(alloc),
             nets: Vec::new(alloc),
             changed: Vec::new(alloc),
             last: Moment { time: 0, delta: 0 },
             stamp: None,
-        }
+            draft,
+        })
     }
 
     /// Whether the last line has been read.
@@ -96,9 +104,9 @@ impl Waves {
     }
 
     /// Adds a net with its initial value; `false` if another net has its name.
-    fn add(&mut self, alloc: Global, name: &str, value: u8) -> Result<bool, AllocError> {
-        let number = self.names.len();
-        if !self.names.insert(String::from_str(alloc, name)?)? {
+    fn add(&mut self, alloc: Global, name: &[u8], value: u8) -> Result<bool, AllocError> {
+        let number = self.nets.len();
+        if !self.names.add(alloc, name)? {
             return Ok(false);
         }
         self.put(number, value)?;
@@ -112,7 +120,12 @@ impl Waves {
             net.value = value;
             return Ok(());
         }
-        self.nets.push(Shown { value, written: 0 })?;
+        let change = Change::new(number);
+        self.nets.push(Shown {
+            value,
+            written: 0,
+            change,
+        })?;
         Ok(())
     }
 
@@ -123,7 +136,7 @@ impl Waves {
         }
         self.stage = Stage::Changes;
         write_head(out, self.scope.as_str())?;
-        write_nets(out, &self.names)?;
+        write_nets(out, self.names.all())?;
         out.write_all(b"$upscope $end\n$enddefinitions $end\n")
     }
 
@@ -142,22 +155,53 @@ impl Waves {
 
     /// Writes the changes of the last moment.
     fn write<W: Write>(&mut self, out: &mut W) -> io::Result<()> {
+        self.flush(out)?;
         let stamp = self.next_stamp();
-        writeln!(out, "#{stamp}")?;
+        self.draft.put_time(stamp);
         match self.stamp {
             None => self.write_first(out)?,
-            Some(_) => write_changes(out, &mut self.nets, self.changed.as_slice())?,
+            Some(_) => self.write_changed(out)?,
         }
         self.stamp = Some(stamp);
         self.changed.clear();
         Ok(())
     }
 
+    /// Writes the values of the nets that changed, behind what was put, which is a time at most.
+    fn write_changed<W: Write>(&mut self, out: &mut W) -> io::Result<()> {
+        write_changes(
+            out,
+            &mut self.draft,
+            &mut self.nets,
+            self.changed.as_slice(),
+        )
+    }
+
     /// Writes the values of all nets, with which a VCD begins.
     fn write_first<W: Write>(&mut self, out: &mut W) -> io::Result<()> {
+        self.flush(out)?;
         out.write_all(b"$dumpvars\n")?;
-        write_changes(out, &mut self.nets, self.changed.as_slice())?;
+        self.write_changed(out)?;
         out.write_all(b"$end\n")
+    }
+
+    /// Puts the changes of the last moment into the draft; `false` if it has no room for them, or if
+    /// they are the first values.
+    fn put_changed(&mut self) -> bool {
+        if self.stamp.is_none() || !self.draft.has_room(self.changed.len()) {
+            return false;
+        }
+        let stamp = self.next_stamp();
+        self.draft.put_time(stamp);
+        put_changes(&mut self.draft, &mut self.nets, self.changed.as_slice());
+        self.stamp = Some(stamp);
+        self.changed.clear();
+        true
+    }
+
+    /// Writes what was put into the draft.
+    pub fn flush<W: Write>(&mut self, out: &mut W) -> io::Result<()> {
+        self.draft.flush(out)
     }
 
     /// Whether a moment is written separately from the last one.
@@ -170,20 +214,36 @@ impl Waves {
         at.time < self.last.time || (at.time == self.last.time && at.delta < self.last.delta)
     }
 
+    /// Takes a change behind the first values, unless something is to be written or refused first;
+    /// `false` if it was not taken.
+    pub fn take(&mut self, at: Moment, name: &[u8], value: u8) -> bool {
+        if self.stage != Stage::Changes || self.is_before(at) {
+            return false;
+        }
+        let Some(number) = self.names.find(name) else {
+            return false;
+        };
+        if self.is_apart(at) && !self.put_changed() {
+            return false;
+        }
+        self.last = at;
+        self.put(number, value).is_ok()
+    }
+
     /// Takes a change; `false` if no change at this moment or of this net is allowed here.
     pub fn change<W: Write>(
         &mut self,
         alloc: Global,
         out: &mut W,
         at: Moment,
-        name: &str,
+        name: &[u8],
         value: u8,
     ) -> io::Result<bool> {
         if at.time == 0 && at.delta == 0 {
-            let may_be_named = self.stage == Stage::Names && is_name(name.as_bytes());
+            let may_be_named = self.stage == Stage::Names && is_name(name);
             return Ok(may_be_named && self.add(alloc, name, value)?);
         }
-        let Some(number) = self.names.get_index_of(name) else {
+        let Some(number) = self.names.find(name) else {
             return Ok(false);
         };
         if self.stage == Stage::Done || self.is_before(at) {

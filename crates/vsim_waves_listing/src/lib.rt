@@ -4,10 +4,13 @@
 
 mod fault;
 mod line;
+mod names;
 mod pieces;
 mod source_map;
+mod words;
 
 pub use fault::Fault;
-pub use line::{Line, Moment, is_name, read_line};
+pub use line::{Line, LineReader, Moment, is_name, read_line};
+pub use names::Names;
 pub use pieces::Pieces;
 pub use source_map::{MapBit, SourceMap, Variable, read_map};

@@ -111,12 +111,21 @@ impl<R: Read> Pieces<R> {
         Ok(self.rest().first().copied())
     }
 
+    /// Goes on to the next line, if all of it is in the block; `false` if it is not.
+    #[inline(always)]
+    pub fn see_line(&mut self) -> bool {
+        let Some(length) = memchr(b'\n', self.rest()) else {
+            return false;
+        };
+        self.see(length, 1);
+        self.lines = self.lines.saturating_add(1);
+        true
+    }
+
     /// Goes on to the next line, which is seen without its line feed; `false` at the end.
     pub fn next_line(&mut self) -> Result<bool, Fault> {
         for _ in 0..u64::MAX {
-            if let Some(length) = memchr(b'\n', self.rest()) {
-                self.see(length, 1);
-                self.lines = self.lines.saturating_add(1);
+            if self.see_line() {
                 return Ok(true);
             }
             if !self.fill()? {
