@@ -461,7 +461,7 @@ REFUSED = [
     (with_group('statetable ("A", "IQ") { table : "H : - : H"; }').replace('function : "A"', 'internal_node : "IQ"'), USED,
      "the Liberty file L: 2: cell X, pin Y: a statetable is not supported"),
     (with_group("bus (D) { bus_type : eight; }"), USED, "the Liberty file L: 2: cell X, pin D: a bus is not supported"),
-    (with_group("bundle (D) { members (D1, D2); }"), USED, "the Liberty file L: 2: cell X, pin D: a bundle is not supported"),
+    (with_group("bundle (D) { members (low, high); }"), USED, "the Liberty file L: 2: cell X, pin D: a bundle is not supported"),
     (with_group('ff (I, N) { next_state : "A"; }'), USED, "the Liberty file L: 2: cell X: an ff has both clocked_on and next_state"),
     (with_group('latch (I, N) { enable : "A"; }'), USED, "2: cell X: a latch has both enable and data_in, or both clear and preset"),
     (with_group('ff (I, N) { next_state : "A"; clocked_on : "A"; clocked_on_also : "A\'"; }'), USED, "2: cell X: a second clock or enable is not supported"),
