@@ -9,6 +9,7 @@ use Rattle.sim_logic.specs.Sources.{SourceTree, FlatSource, Driven, IsResolvable
 use Rattle.sim_logic.specs.Sources as tree
 use Rattle.sim_logic.proofs.SourceLaws.{resolved-flat_sources}
 use Rattle.sim_flat_design.specs.declared.design.Source.{Source}
+use Rattle.sim_flat_design.specs.Limits.{Limits}
 use Rattle.sim_flat_design.specs.Designs.{Net, Design}
 use Rattle.sim_flat_blocks.specs.declared.parts.Object.{Object}
 use Rattle.sim_flat_blocks.specs.declared.parts.Instance.{Instance}
@@ -149,10 +150,12 @@ all_values [] (n ∷ ns) h z = absurd z
 all_values (t ∷ ts) [] h z = absurd z
 all_values (t ∷ ts) (n ∷ ns) h z = (has_value t n h.0 z.0, all_values ts ns h.1 z.1)
 
-pub nets_nested : (blocks : List Block) (top : Top) (design : Design) → IsFlat blocks top design → AllZip HasValueOf (trees blocks top.block) design.nets
-nets_nested blocks top design f =
+pub nets_nested : (limits : Limits) (blocks : List Block) (top : Top) (design : Design) → IsFlat limits blocks top design
+    → AllZip HasValueOf (trees blocks top.block) design.nets
+nets_nested limits blocks top design f =
     subst (λ (d : Design). AllZip HasValueOf (trees blocks top.block) d.nets) (sym f.is)
     (all_values (trees blocks top.block) (flat blocks top.block).nets (trees_resolvable blocks top.block f.resolved) (nets_made blocks top.block))
 
-pub names_allowed : (blocks : List Block) (top : Top) (design : Design) → IsFlat blocks top design → All IsResolvable (trees blocks top.block)
-names_allowed blocks top design f = all_of IsResolvable (trees blocks top.block) (trees_resolvable blocks top.block f.resolved)
+pub names_allowed : (limits : Limits) (blocks : List Block) (top : Top) (design : Design) → IsFlat limits blocks top design
+    → All IsResolvable (trees blocks top.block)
+names_allowed limits blocks top design f = all_of IsResolvable (trees blocks top.block) (trees_resolvable blocks top.block f.resolved)

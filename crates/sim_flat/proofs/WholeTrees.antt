@@ -4,6 +4,7 @@ use Rattle.std.proofs.Common.{◌≡◌, ℕ, zero, suc, ◌+◌, ◌-◌, ◌�
 use Rattle.std.proofs.Common.{Bool, true, false, map, slice_index_or, refl, ap, sym, ◌∙◌, subst, arith}
 use Rattle.std.specs.List.{list_any}
 use Rattle.sim_logic.specs.Sources.{SourceTree, flat_sources}
+use Rattle.sim_flat_design.specs.Limits.{Limits}
 use Rattle.sim_flat_design.specs.Designs.{Design}
 use Rattle.sim_flat_blocks.specs.declared.links.Link.{Link}
 use Rattle.sim_flat_blocks.specs.declared.parts.Object.{Object}
@@ -218,16 +219,16 @@ module _ (blocks : List Block) (top : ℕ) (short : has_chain blocks levels (sli
 split : (n : ℕ) → levels ≤ n → n - levels + levels ≡ n
 split n le = omega arith
 
-pub trees_whole : (blocks : List Block) (top : Top) (design : Design) → IsFlat blocks top design → (n : ℕ) → levels ≤ n
+pub trees_whole : (limits : Limits) (blocks : List Block) (top : Top) (design : Design) → IsFlat limits blocks top design → (n : ℕ) → levels ≤ n
     → trees_to n blocks top.block ≡ trees blocks top.block
 unfolding occurrences_of
-trees_whole blocks top design f n le =
+trees_whole limits blocks top design f n le =
     subst (λ (k : ℕ). trees_to k blocks top.block ≡ trees_to levels blocks top.block) (split n le)
     (all_trees blocks top.block f.fits.depth (n - levels))
 
-pub design_whole : (blocks : List Block) (top : Top) (design : Design) → IsFlat blocks top design → (n : ℕ) → levels ≤ n
+pub design_whole : (limits : Limits) (blocks : List Block) (top : Top) (design : Design) → IsFlat limits blocks top design → (n : ℕ) → levels ≤ n
     → flat_to n blocks top.block ≡ design
 unfolding flat occurrences_of
-design_whole blocks top design f n le =
+design_whole limits blocks top design f n le =
     subst (λ (k : ℕ). flat_to k blocks top.block ≡ flat_to levels blocks top.block) (split n le)
     (whole_design blocks top.block f.fits.depth (n - levels)) ∙ sym f.is

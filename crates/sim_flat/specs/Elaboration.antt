@@ -1,6 +1,7 @@
 -- Elaboration: the flat design of a library and a top, or the first fault of the first group that has one (IEEE 1076-2008, 13 and 14).
 use Rattle.std.specs.Prelude.{ℕ, ◌≡◌, ◌⊎◌, List, Option, Some, None}
 use Rattle.sim_flat_design.specs.Designs.{Design}
+use Rattle.sim_flat_design.specs.Limits.{Limits, standard}
 use Rattle.sim_flat_scope.specs.declared.fault.Fault.{Fault}
 use Rattle.sim_flat_scope.specs.Faults.{earliest}
 use Rattle.sim_flat_instances.specs.Libraries.{Library}
@@ -18,11 +19,11 @@ abbrev pub first_fault : Library → Option Fault
 first_fault l = earliest None (file_faults l)
 
 -- The units have no fault, the top exists, and there is no fault under it: this is its flat design.
-pub record IsDesign (l : Library) (name : List ℕ) (design : Design) : Type 0 where
+pub record IsDesignWithin (limits : Limits) (l : Library) (name : List ℕ) (design : Design) : Type 0 where
   pub checked : first_fault l ≡ None
   pub top : Top
   pub is_top : IsTop l name top
-  pub flat : hierarchy.IsFlat (blocks_of l) top design
+  pub flat : hierarchy.IsFlat limits (blocks_of l) top design
 
 -- The first fault of the units.
 pub record IsUnitFault (l : Library) (e : FlatError) : Type 0 where
@@ -36,12 +37,19 @@ pub record IsWithoutTop (l : Library) (name : List ℕ) (e : FlatError) : Type 0
   pub missing : IsMissing l name e
 
 -- The units have no fault and the top exists, but there is a fault under it: this is the first.
-pub record IsHierarchyFault (l : Library) (name : List ℕ) (e : FlatError) : Type 0 where
+pub record IsHierarchyFault (limits : Limits) (l : Library) (name : List ℕ) (e : FlatError) : Type 0 where
   pub checked : first_fault l ≡ None
   pub top : Top
   pub is_top : IsTop l name top
-  pub fault : hierarchy.IsFault (blocks_of l) top e
+  pub fault : hierarchy.IsFault limits (blocks_of l) top e
 
 -- Why there is no flat design: an allocation failed, or this is the first fault of the first group that has one.
+abbrev pub IsRefusalWithin : Limits → Library → List ℕ → FlatError → Type 0
+IsRefusalWithin limits l name e = (e ≡ refusal.Memory) ⊎ IsUnitFault l e ⊎ IsWithoutTop l name e ⊎ IsHierarchyFault limits l name e
+
+-- The same within the limits where none are chosen.
+abbrev pub IsDesign : Library → List ℕ → Design → Type 0
+IsDesign = IsDesignWithin standard
+
 abbrev pub IsRefusal : Library → List ℕ → FlatError → Type 0
-IsRefusal l name e = (e ≡ refusal.Memory) ⊎ IsUnitFault l e ⊎ IsWithoutTop l name e ⊎ IsHierarchyFault l name e
+IsRefusal = IsRefusalWithin standard

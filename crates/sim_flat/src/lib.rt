@@ -9,6 +9,6 @@ mod hierarchy;
 pub mod laws;
 mod top;
 
-pub use elaboration::flatten;
+pub use elaboration::{flatten, flatten_within};
 pub use error::FlatError;
-pub use sim_flat_design::{Design, DriverOf, Net, Process, Source};
+pub use sim_flat_design::{Design, DriverOf, Limits, Net, Process, Source};

@@ -23,9 +23,9 @@ pub record Design : Type 0 where
   pub processes : List Process
   pub drivers : List DriverOf
 
--- the largest number of nets, of processes and of drivers
+-- the largest number of nets, of processes and of drivers that any limits allow
 abbrev pub most : ℕ
-most = 2 ^ 16
+most = 1000000
 
 -- A source is one of this number of drivers, or a constant.
 abbrev pub IsSource : ℕ → Source → Type 0

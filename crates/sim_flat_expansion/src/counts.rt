@@ -20,8 +20,8 @@ pub enum Kind {
     Instances,
 }
 
-/// One more than the largest number of nets, of processes or of drivers.
-const ABOVE: usize = 65_537;
+/// One more than the largest number that any limits allow.
+const ABOVE: usize = 1_000_001;
 
 /// The number of levels of instances below the top.
 const LEVELS: usize = 32;

@@ -7,6 +7,7 @@ use Rattle.sim_logic.specs.Resolution.{resolved}
 use Rattle.sim_logic.specs.Sources.{SourceTree}
 use Rattle.sim_flat_design.specs.declared.design.Source.{Source}
 use Rattle.sim_flat_design.specs.declared.design.Source.TheVariants as source
+use Rattle.sim_flat_design.specs.Limits.{Limits}
 use Rattle.sim_flat_design.specs.Designs.{Net, Design}
 use Rattle.sim_flat_blocks.specs.declared.parts.Block.{Block}
 use Rattle.sim_standard.specs.Drivers.{DriverState}
@@ -34,6 +35,6 @@ each_value drivers [] (n ∷ ns) z = absurd z
 each_value drivers (t ∷ ts) [] z = absurd z
 each_value drivers (t ∷ ts) (n ∷ ns) z = (nested_value drivers t n z.0, each_value drivers ts ns z.1)
 
-pub nested_values : (blocks : List Block) (top : Top) (design : Design) (drivers : List DriverState) → IsFlat blocks top design
+pub nested_values : (limits : Limits) (blocks : List Block) (top : Top) (design : Design) (drivers : List DriverState) → IsFlat limits blocks top design
     → AllZip (HasNestedValue drivers) (trees blocks top.block) design.nets
-nested_values blocks top design drivers f = each_value drivers (trees blocks top.block) design.nets (nets_nested blocks top design f)
+nested_values limits blocks top design drivers f = each_value drivers (trees blocks top.block) design.nets (nets_nested limits blocks top design f)

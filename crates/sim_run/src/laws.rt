@@ -3,6 +3,7 @@
 ghost use Rattle.std.specs.Prelude.{◌≡◌, ℕ, List, length, sum_by};
 ghost use Rattle.std.specs.List.{All, AllZip, range_with_len};
 ghost use Rattle.sim_flat_design.specs.Designs.{Design};
+ghost use Rattle.sim_flat_design.specs.Limits.{Limits};
 ghost use Rattle.sim_flat_blocks.specs.declared.parts.Block.{Block};
 ghost use Rattle.sim_flat_design.specs.Processes.{IsProcess};
 ghost use Rattle.sim_standard.specs.Agreement.{total_of};
@@ -17,8 +18,8 @@ ghost use Rattle.sim_run.specs.Laws.{HasNestedValue};
 /// associated port is resolved by itself, whatever the values of its drivers
 /// (IEEE 1076-2008, 14.7.3).
 pub fn cycles_give_nets_the_values_of_their_source_trees()
-    ensures { (blocks : List Block) (top : Top) (design : Design) (drivers : List DriverState) →
-        IsFlat blocks top design → AllZip (HasNestedValue drivers) (trees blocks top.block) design.nets }
+    ensures { (limits : Limits) (blocks : List Block) (top : Top) (design : Design) (drivers : List DriverState) →
+        IsFlat limits blocks top design → AllZip (HasNestedValue drivers) (trees blocks top.block) design.nets }
 {}
 
 /// The number of events in the last line of a listing is the sum of the totals of all nets.

@@ -3,6 +3,6 @@
 
 mod text;
 
-pub use sim_text_tokens::{Kind, TextError, Token, tokens};
+pub use sim_text_tokens::{Kind, MOST_BYTES, TextError, Token, tokens, tokens_within};
 pub use sim_text_tree as tree;
-pub use text::parse;
+pub use text::{parse, parse_within};

@@ -17,7 +17,7 @@ use sqlite_items::Items;
 use std::alloc::{AllocError, Global};
 
 /// The largest length of a text, in bytes.
-const MOST_BYTES: usize = 1_048_576;
+pub const MOST_BYTES: usize = 1_048_576;
 
 type KindAndText = (Kind, Items<u8>);
 
@@ -127,15 +127,24 @@ fn cut(alloc: Global, source: &[u8]) -> Result<Vec<Token>, TextError>
 ///
 /// Separators and comments between tokens are dropped, and no separator is required between two
 /// tokens. An apostrophe after a word that is not reserved is a tick; elsewhere it begins a
-/// character literal. `TooLong` takes precedence, then the leftmost of the other faults; `Memory`
-/// if an allocation fails before that one is reached.
+/// character literal. `TooLong`, if the text has more than `bytes` bytes, takes precedence, then the
+/// leftmost of the other faults; `Memory` if an allocation fails before that one is reached.
+pub fn tokens_within(alloc: Global, source: &[u8], bytes: usize) -> Result<Vec<Token>, TextError>
+    ensures too_long { (result ≡ Err TextError.TooLong) ↔ (bytes < length source.now) }
+    ensures found { IfOk result (λ v. AreTokens source.now v.items) }
+    ensures fault { IfErr result (λ e. e ≢ TextError.Memory → e ≢ TextError.TooLong → IsLexicalFault source.now e) }
+{
+    if source.len() > bytes {
+        return Err(TextError::TooLong);
+    }
+    cut(alloc, source)
+}
+
+/// The tokens of a text of at most 1,048,576 bytes.
 pub fn tokens(alloc: Global, source: &[u8]) -> Result<Vec<Token>, TextError>
     ensures too_long { (result ≡ Err TextError.TooLong) ↔ (most_bytes < length source.now) }
     ensures found { IfOk result (λ v. AreTokens source.now v.items) }
     ensures fault { IfErr result (λ e. e ≢ TextError.Memory → e ≢ TextError.TooLong → IsLexicalFault source.now e) }
 {
-    if source.len() > MOST_BYTES {
-        return Err(TextError::TooLong);
-    }
-    cut(alloc, source)
+    tokens_within(alloc, source, MOST_BYTES)
 }

@@ -12,5 +12,5 @@ mod words;
 
 pub use error::TextError;
 pub use kind::Kind;
-pub use lexer::tokens;
+pub use lexer::{MOST_BYTES, tokens, tokens_within};
 pub use token::Token;
