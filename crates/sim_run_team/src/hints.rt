@@ -29,8 +29,8 @@ pub struct Hints {
 }
 
 impl Hints {
-    /// Measured values: sleeping and being woken take some ten microseconds of a processor, and so
-    /// does looking as often.
+    /// Measured values: sleeping and being woken take some ten microseconds of a processor, and a
+    /// thousand looks some thirty.
     pub const fn measured() -> Hints {
         Hints {
             least_steps_of_a_process: 16,
@@ -55,7 +55,7 @@ impl Hints {
         }
     }
 
-    /// The greatest number of threads that have enough to do in a phase of so many steps.
+    /// The greatest number of threads that have enough to do in a phase of `steps` steps.
     pub fn busy_threads(&self, steps: usize) -> usize {
         if self.least_steps_of_a_thread == 0 {
             usize::MAX
@@ -64,7 +64,7 @@ impl Hints {
         }
     }
 
-    /// The number of orders in a phase of a run by so many threads.
+    /// The number of orders in a phase of a run by `threads` threads.
     pub fn orders(&self, threads: usize) -> usize {
         if threads > 1 {
             threads.saturating_mul(self.orders_of_a_thread)

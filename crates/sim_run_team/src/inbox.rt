@@ -21,7 +21,7 @@ pub struct Inbox<T: Drop> {
 }
 
 impl<T: Drop> Inbox<T> {
-    /// An empty inbox with room for so many messages, at least one.
+    /// An empty inbox with room for `room` messages, at least one.
     pub fn new(alloc: Global, room: usize) -> Result<Inbox<T>, AllocError>
         requires { 0 < room }
     {

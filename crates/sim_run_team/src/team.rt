@@ -42,7 +42,7 @@ impl<W: Work> Drop for Team<'_, W> {
 }
 
 impl<'a, W: Work> Team<'a, W> {
-    /// The team of the workers at so many of these posts, the first ones.
+    /// The team of the workers at the first `hired` of these posts.
     pub fn new(posts: &'a Posts<W>, hired: usize, hints: Hints) -> Team<'a, W> {
         Team {
             posts,

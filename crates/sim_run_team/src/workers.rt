@@ -75,7 +75,7 @@ fn inboxes<T: Drop>(alloc: Global, count: usize, room: usize) -> Option<Vec<Inbo
 }
 
 impl<W: Work> Posts<W> {
-    /// Posts for so many workers, each with room for so many orders, at least one, and room for the
+    /// Posts for `workers` workers, each with room for `room` orders, at least one, and room for the
     /// answers to all of these. A thread sleeps once it has looked `looks` times for a message. `None`
     /// if memory runs out.
     pub fn new(alloc: Global, workers: usize, room: usize, looks: u32) -> Option<Posts<W>> {
