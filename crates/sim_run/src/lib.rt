@@ -9,9 +9,10 @@ pub use finished::{Finished, write_listing};
 pub use runs::{run, run_in};
 pub use sim_flat::FlatError;
 pub use sim_flat_design::Design;
-pub use sim_run_options::{CliFault, Options, read_options};
+pub use sim_run_options::{CliFault, Limits, Options, Request, read_options, read_request};
 pub use sim_run_session::{
-    Hints, RunError, elaborate, session, session_with_hints, simulate, simulate_with_hints,
+    Hints, RunError, Settings, elaborate, elaborate_within, session, session_with_hints, simulate,
+    simulate_within,
 };
 pub use sim_run_workers::{Gate, Open};
 pub use sim_store::{Record, WaveStore};

@@ -12,8 +12,11 @@ use Rattle.clap.specs.Walk.{nothing_held, one_of, option, settled, walk, walk_fr
 use Rattle.clap.specs.declared.error.kind.ErrorKind.{ErrorKind}
 use Rattle.clap.specs.declared.error.kind.ErrorKind.TheVariants as kinds
 use Rattle.clap.proofs.OnLiterals.{clap_on_literals}
-use Rattle.sim_run_options.specs.Asks.{Asks, Explains, IsDefault, program}
+use Rattle.sim_run_options.specs.Asks.{Asks, AsksFor, Explains, IsDefault, IsUsual, limits_in, program}
+use Rattle.sim_run_options.specs.Limits.{usual_cycles_of}
+use Rattle.sim_run_options.specs.declared.limits.Limits.TheVariants.{Standard}
 use Rattle.sim_run_options.specs.declared.options.Options.{Options}
+use Rattle.sim_run_options.specs.declared.reading.Request.{Request}
 use Rattle.sim_run_options.specs.declared.fault.CliFault.{CliFault}
 use Rattle.sim_run_options.specs.declared.fault.CliFault.TheVariants as fault
 
@@ -102,7 +105,15 @@ stop_found : (name : Text) → number_in (codes "stop") (finished rules (after_n
 unfolding clap_on_literals
 stop_found name = refl
 
-limit_found : (name : Text) → number_in (codes "limit") (finished rules (after_name name).held) ≡ Some 10000
+limits_found : (name : Text) → limits_in (finished rules (after_name name).held) ≡ Standard
+unfolding clap_on_literals
+limits_found name = refl
+
+-- the limit of cycles that rows give
+abbrev limit_in : List Row → ℕ
+limit_in rs = unwrap_or (number_in (codes "limit") rs) (usual_cycles_of (limits_in rs))
+
+limit_found : (name : Text) → limit_in (finished rules (after_name name).held) ≡ 10000
 unfolding clap_on_literals
 limit_found name = refl
 
@@ -123,18 +134,25 @@ defaults words name options is e asks =
     record {
       top = some _ _ (sym asks.top ∙ (ap (first_of (codes "top")) same ∙ top_found name));
       stop = some _ _ (sym asks.stop ∙ (ap (number_in (codes "stop")) same ∙ stop_found name));
-      limit = some _ _ (sym asks.limit ∙ (ap (number_in (codes "limit")) same ∙ limit_found name));
+      limit = sym asks.limit ∙ (ap limit_in same ∙ limit_found name);
       workers = some _ _ (sym asks.workers ∙ (ap (number_in (codes "workers")) same ∙ workers_found name));
     }
+
+usual : (words : List Text) (name : Text) (request : Request) → words ≡ codes "--top" ∷ name ∷ [] → starts_with_minus name ≡ false
+    → AsksFor words request → IsUsual name request
+usual words name request is e asks = record {
+  options = defaults words name request.options is e asks.options;
+  limits = asks.limits ∙ (ap limits_in (ap (matches_of program) is ∙ rows name e) ∙ limits_found name);
+}
 
 no_kind : (words : List Text) (name : Text) (k : ErrorKind) → words ≡ codes "--top" ∷ name ∷ [] → starts_with_minus name ≡ false
     → IsAmong k (fault_of program words) → ⊥
 no_kind words name k is e among = subst (IsAmong k) (ap (fault_of program) is ∙ name_taken name e) among
 
--- so the answer is these options, or that memory ran out
-pub answered : (words : List Text) (name : Text) (r : Result Options CliFault) → MatchResult r (Asks words) (Explains words)
-    → words ≡ codes "--top" ∷ name ∷ [] → starts_with_minus name ≡ false → MatchResult r (IsDefault name) (λ f. f ≡ fault.Memory)
-answered words name (Ok options) h is e = defaults words name options is e h
+-- so the answer is this run, or that memory ran out
+pub answered : (words : List Text) (name : Text) (r : Result Request CliFault) → MatchResult r (AsksFor words) (Explains words)
+    → words ≡ codes "--top" ∷ name ∷ [] → starts_with_minus name ≡ false → MatchResult r (IsUsual name) (λ f. f ≡ fault.Memory)
+answered words name (Ok request) h is e = usual words name request is e h
 answered words name (Err (fault.Help text)) h is e = absurd (no_kind words name kinds.DisplayHelp is e h.among)
 answered words name (Err (fault.Refused text)) h is e = absurd (no_kind words name h.kind is e h.among)
 answered words name (Err fault.Memory) h is e = refl

@@ -71,44 +71,49 @@ no_items (x ∷ xs) e =
 rules_same : (c : Command) → app_of c ≡ program → map rule_of (args_of c) ≡ program.top.rules
 rules_same c e = ap (λ (a : App). a.top.rules) e
 
-four : (c : Command) → app_of c ≡ program → length (args_of c) ≡ 4
-four c e = sym (length-map (args_of c) rule_of) ∙ ap length (rules_same c e)
+five : (c : Command) → app_of c ≡ program → length (args_of c) ≡ 5
+five c e = sym (length-map (args_of c) rule_of) ∙ ap length (rules_same c e)
 
 -- the rule of the argument at an index
 abbrev at : ℕ → Rule
 at k = slice_index_or program.top.rules k top_rule
 
-rule_at : (c : Command) → app_of c ≡ program → (k : ℕ) (d : Arg) → k < 4 → rule_of (slice_index_or (args_of c) k d) ≡ at k
+rule_at : (c : Command) → app_of c ≡ program → (k : ℕ) (d : Arg) → k < 5 → rule_of (slice_index_or (args_of c) k d) ≡ at k
 rule_at c e k d lt =
-    sym (get_or-map rule_of (args_of c) k d top_rule (subst (λ n. k < n) (sym (four c e)) lt)) ∙ ap (λ rs. slice_index_or rs k top_rule) (rules_same c e)
+    sym (get_or-map rule_of (args_of c) k d top_rule (subst (λ n. k < n) (sym (five c e)) lt)) ∙ ap (λ rs. slice_index_or rs k top_rule) (rules_same c e)
 
 all_simple : (k : ℕ) → (at k).is_simple ≡ true
 all_simple zero = refl
 all_simple (suc zero) = refl
 all_simple (suc (suc zero)) = refl
 all_simple (suc (suc (suc zero))) = refl
-all_simple (suc (suc (suc (suc k)))) = refl
+all_simple (suc (suc (suc (suc zero)))) = refl
+all_simple (suc (suc (suc (suc (suc k))))) = refl
 
 all_free : (k : ℕ) → (at k).is_free ≡ true
 all_free zero = refl
 all_free (suc zero) = refl
 all_free (suc (suc zero)) = refl
 all_free (suc (suc (suc zero))) = refl
-all_free (suc (suc (suc (suc k)))) = refl
+all_free (suc (suc (suc (suc zero)))) = refl
+all_free (suc (suc (suc (suc (suc k))))) = refl
 
--- ids differ in their first letters
 abbrev letter : Text → ℕ
 letter t = slice_index_or t 0 0
 
-abbrev place : ℕ → ℕ
-place x = if x == 116 then 0 else (if x == 115 then 1 else (if x == 108 then 2 else 3))
+-- ids differ in their fourth letters
+abbrev place : Text → ℕ
+place t =
+    let x = slice_index_or t 3 0 in
+    if x == 0 then 0 else (if x == 112 then 1 else (if x == 105 then 2 else (if x == 107 then 3 else 4)))
 
-placed : (k : ℕ) → k < 4 → place (letter (at k).id) ≡ k
+placed : (k : ℕ) → k < 5 → place (at k).id ≡ k
 placed zero lt = refl
 placed (suc zero) lt = refl
 placed (suc (suc zero)) lt = refl
 placed (suc (suc (suc zero))) lt = refl
-placed (suc (suc (suc (suc k)))) lt = absurd (omega arith)
+placed (suc (suc (suc (suc zero)))) lt = refl
+placed (suc (suc (suc (suc (suc k))))) lt = absurd (omega arith)
 
 -- what holds for each argument of the command
 record Fits (c : Command) (k : ℕ) (d : Arg) : Type 0 where
@@ -132,14 +137,14 @@ simple_of a e =
 free_of : (a : Arg) → is_free_arg a ≡ true → (a.exclusive ≡ false) × (a.conflicts.items ≡ [])
 free_of a e = (not_true _ (and_left _ _ e), no_items _ (and_left _ _ (and_right _ _ e)))
 
-fits : (c : Command) → app_of c ≡ program → (k : ℕ) (d : Arg) → k < 4 → Fits c k d
+fits : (c : Command) → app_of c ≡ program → (k : ℕ) (d : Arg) → k < 5 → Fits c k d
 fits c e k d lt =
     let rule = rule_at c e k d lt in
     let simple = simple_of (slice_index_or (args_of c) k d) (ap (λ (r : Rule). r.is_simple) rule ∙ all_simple k) in
     let free = free_of (slice_index_or (args_of c) k d) (ap (λ (r : Rule). r.is_free) rule ∙ all_free k) in
     record {
       rule = rule;
-      inside = subst (λ n. k < n) (sym (four c e)) lt;
+      inside = subst (λ n. k < n) (sym (five c e)) lt;
       plain = (free.0, free.1, simple.0, simple.2);
       delimiter = simple.3;
       conditions = simple.1;
@@ -147,7 +152,7 @@ fits c e k d lt =
 
 is_plain : (c : Command) → app_of c ≡ program → IsPlain c
 is_plain c e = (
-  λ k d lt. (fits c e k d (subst (λ n. k < n) (four c e) lt)).plain,
+  λ k d lt. (fits c e k d (subst (λ n. k < n) (five c e) lt)).plain,
   no_items _ (and_left _ _ (ap (λ (a : App). a.top.is_plain) e)),
 )
 
@@ -157,19 +162,19 @@ no_globals c e = not_true _ (and_left _ _ (and_right _ _ (and_right _ _ (ap (λ 
 negates_nothing : (c : Command) → app_of c ≡ program → (out-Command c).subcommand_negates_reqs ≡ false
 negates_nothing c e = ap (λ (a : App). a.top.subcommand_negates_reqs) e
 
-an_arg : (xs : List Arg) → length xs ≡ 4 → Arg
+an_arg : (xs : List Arg) → length xs ≡ 5 → Arg
 an_arg [] e = absurd (omega arith)
 an_arg (x ∷ xs) e = x
 
 -- no other argument has the id
-only : (c : Command) → app_of c ≡ program → (k : ℕ) (d : Arg) → k < 4 → (j : ℕ) (x : Arg) → j < length (args_of c)
+only : (c : Command) → app_of c ≡ program → (k : ℕ) (d : Arg) → k < 5 → (j : ℕ) (x : Arg) → j < length (args_of c)
     → bytes_eq (slice_index_or (args_of c) j x).id.now (slice_index_or (args_of c) k d).id.now ≡ true → j ≡ k
 only c e k d lt j x inside same =
-    let below : j < 4 = subst (λ n. j < n) (four c e) inside in
+    let below : j < 5 = subst (λ n. j < n) (five c e) inside in
     let mine = ap (λ (r : Rule). r.id) (rule_at c e k d lt) in
     let its = ap (λ (r : Rule). r.id) (rule_at c e j x below) in
     let equal : (at j).id ≡ (at k).id = sym its ∙ ((bytes_eq-Decides _ _).0 same ∙ mine) in
-    sym (placed j below) ∙ (ap (λ t. place (letter t)) equal ∙ placed k lt)
+    sym (placed j below) ∙ (ap place equal ∙ placed k lt)
 
 -- ---- values
 
@@ -332,13 +337,14 @@ not_auto : (t : Text) (x : ℕ) → letter t ≡ x → x ≢ 104 → x ≢ 118 �
 not_auto t x e h v (inl is) = h (sym e ∙ ap letter is)
 not_auto t x e h v (inr is) = v (sym e ∙ ap letter is)
 
-number_there : (c : Command) (m : ArgMatches) → app_of c ≡ program → IsParsedFrom c m → (k : ℕ) (q : ValueParser) (x bits : ℕ) → k < 4
-    → (at k).parser ≡ Some q → (at k).action ≡ Some Set → (at k).range ≡ None → 0 < length (at k).defaults
-    → letter (at k).id ≡ x → 0 < x → x ≢ 104 → x ≢ 118 → ReadsBelow q bits → IsNumber (found_of m) (at k).id bits
-number_there c m e p k q x bits lt parser_is set range defaults first named help version reads = subst (λ t. IsNumber (found_of m) t bits) id_is found
+-- if an option has an entry, it has a number
+number_found : (c : Command) (m : ArgMatches) → app_of c ≡ program → IsParsedFrom c m → (k : ℕ) (q : ValueParser) (x bits : ℕ) → k < 5
+    → (at k).parser ≡ Some q → (at k).action ≡ Some Set → (at k).range ≡ None → letter (at k).id ≡ x → 0 < x → x ≢ 104 → x ≢ 118 → ReadsBelow q bits
+    → is_some (matched_of (found_of m) (at k).id) ≡ true → IsNumber (found_of m) (at k).id bits
+number_found c m e p k q x bits lt parser_is set range first named help version reads there = subst (λ t. IsNumber (found_of m) t bits) id_is found
   where
     d : Arg
-    d = an_arg (args_of c) (four c e)
+    d = an_arg (args_of c) (five c e)
 
     a : Arg
     a = slice_index_or (args_of c) k d
@@ -356,11 +362,8 @@ number_there c m e p k q x bits lt parser_is set range defaults first named help
     same = same_rules_by_id c m p k d fit.inside (only c e k d lt)
         (λ auto. not_auto (at k).id x first help version (subst (λ t. (t ≡ codes "help") ⊎ (t ≡ codes "version")) id_is auto))
 
-    some_defaults : 0 < length (items_of a.default_vals)
-    some_defaults = subst (λ n. 0 < n) (ap (λ (r : Rule). length r.defaults) (sym fit.rule) ∙ length-map (items_of a.default_vals) (λ s. s.now)) defaults
-
     is_found : is_some (matched_of (found_of m) a.id.now) ≡ true
-    is_found = entry_found (found_of m).entries.items a.id.now (default_present c m p (no_globals c e) k d fit.inside (fit.conditions, some_defaults))
+    is_found = subst (λ t. is_some (matched_of (found_of m) t) ≡ true) (sym id_is) there
 
     at_entry : (y : Entry) (g : MatchedArg) → matched_of (found_of m) a.id.now ≡ Some g → y.1 ≡ g → y.0.now ≡ a.id.now → EntryPasses p.built y
         → IsNumber (found_of m) a.id.now bits
@@ -392,15 +395,39 @@ number_there c m e p k q x bits lt parser_is set range defaults first named help
             let y = entry_by_id (EntryPasses p.built) (found_of m).entries.items a.id.now g parsed.values some in
             at_entry y.0 g some y.1 ((bytes_eq-Decides _ _).0 y.2) y.3
 
+-- an option with a default has an entry, so it has a number
+number_there : (c : Command) (m : ArgMatches) → app_of c ≡ program → IsParsedFrom c m → (k : ℕ) (q : ValueParser) (x bits : ℕ) → k < 5
+    → (at k).parser ≡ Some q → (at k).action ≡ Some Set → (at k).range ≡ None → 0 < length (at k).defaults
+    → letter (at k).id ≡ x → 0 < x → x ≢ 104 → x ≢ 118 → ReadsBelow q bits → IsNumber (found_of m) (at k).id bits
+number_there c m e p k q x bits lt parser_is set range defaults first named help version reads =
+    number_found c m e p k q x bits lt parser_is set range first named help version reads
+    (subst (λ t. is_some (matched_of (found_of m) t) ≡ true) (ap (λ (r : Rule). r.id) fit.rule) is_found)
+  where
+    d : Arg
+    d = an_arg (args_of c) (five c e)
+
+    a : Arg
+    a = slice_index_or (args_of c) k d
+
+    fit : Fits c k d
+    fit = fits c e k d lt
+
+    some_defaults : 0 < length (items_of a.default_vals)
+    some_defaults = subst (λ n. 0 < n) (ap (λ (r : Rule). length r.defaults) (sym fit.rule) ∙ length-map (items_of a.default_vals) (λ s. s.now)) defaults
+
+    is_found : is_some (matched_of (found_of m) a.id.now) ≡ true
+    is_found = entry_found (found_of m).entries.items a.id.now (default_present c m p (no_globals c e) k d fit.inside (fit.conditions, some_defaults))
+
 pub stop_there : (c : Command) (m : ArgMatches) → app_of c ≡ program → IsParsedFrom c m → IsNumber (found_of m) (codes "stop") 64
 stop_there c m e p =
     number_there c m e p 1 (parser.Unsigned 0 18446744073709551615) 115 64 (omega arith) refl refl refl (omega arith) refl (omega arith)
     (λ h. omega (arith, h)) (λ h. omega (arith, h)) unsigned_below
 
-pub limit_there : (c : Command) (m : ArgMatches) → app_of c ≡ program → IsParsedFrom c m → IsNumber (found_of m) (codes "limit") 32
-limit_there c m e p =
-    number_there c m e p 2 (parser.Signed (pos 0) (pos 4294967295)) 108 32 (omega arith) refl refl refl (omega arith) refl (omega arith)
-    (λ h. omega (arith, h)) (λ h. omega (arith, h)) signed_below
+limit_found : (c : Command) (m : ArgMatches) → app_of c ≡ program → IsParsedFrom c m → is_some (matched_of (found_of m) (codes "limit")) ≡ true
+    → IsNumber (found_of m) (codes "limit") 32
+limit_found c m e p there =
+    number_found c m e p 2 (parser.Signed (pos 0) (pos 4294967295)) 108 32 (omega arith) refl refl refl refl (omega arith)
+    (λ h. omega (arith, h)) (λ h. omega (arith, h)) signed_below there
 
 pub workers_there : (c : Command) (m : ArgMatches) → app_of c ≡ program → IsParsedFrom c m → IsNumber (found_of m) (codes "workers") 64
 workers_there c m e p =
@@ -410,8 +437,8 @@ workers_there c m e p =
 -- the top is required, so it has a value
 pub top_there : (c : Command) (m : ArgMatches) → app_of c ≡ program → IsParsedFrom c m → is_some (first_value (found_of m) (codes "top")) ≡ true
 top_there c m e p =
-    let lt : 0 < 4 = omega arith in
-    let d = an_arg (args_of c) (four c e) in
+    let lt : 0 < 5 = omega arith in
+    let d = an_arg (args_of c) (five c e) in
     let fit = fits c e 0 d lt in
     let id_is = ap (λ (r : Rule). r.id) fit.rule in
     let least : 1 ≤ least_values (slice_index_or (args_of c) 0 d) =
@@ -441,6 +468,24 @@ pub number_known : (f : Found) (id : Text) (bits : ℕ) (words : List Text) (n :
     → number_of id words ≡ Some (digits_value 10 (without_leading_plus n.text))
 number_known f id bits words n rows =
     ap (option_map (λ t. digits_value 10 (without_leading_plus t))) (ap (one_of id) (sym rows) ∙ (sym (one_text-rows f id) ∙ n.read))
+
+-- what the getter reads of the limit is its number, if it has one
+pub limit_known : {E : Type 0} (explains : List ℕ → Result ℕ E → Type 0) (c : Command) (m : ArgMatches) → app_of c ≡ program → IsParsedFrom c m
+    → (r : Option ℕ) → (one_text (found_of m) (codes "limit") ≡ None → r ≡ None)
+    → ((t : List ℕ) → one_text (found_of m) (codes "limit") ≡ Some t → ReadsOne (Parses explains 32) t r)
+    → (words : List Text) → rows_of (found_of m) ≡ matches_of program words → number_of (codes "limit") words ≡ r
+limit_known explains c m e p r none value words rows = go (matched_of (found_of m) (codes "limit")) refl
+  where
+    text_is : one_of (codes "limit") (matches_of program words) ≡ one_text (found_of m) (codes "limit")
+    text_is = ap (one_of (codes "limit")) (sym rows) ∙ sym (one_text-rows (found_of m) (codes "limit"))
+
+    go : (o : Option MatchedArg) → matched_of (found_of m) (codes "limit") ≡ o → number_of (codes "limit") words ≡ r
+    go None is =
+        let no_text : one_text (found_of m) (codes "limit") ≡ None = rw is refl in
+        ap (option_map (λ t. digits_value 10 (without_leading_plus t))) (text_is ∙ no_text) ∙ sym (none no_text)
+    go (Some g) is =
+        let n = limit_found c m e p (rw is refl) in
+        number_known (found_of m) (codes "limit") 32 words n rows ∙ sym (number_read explains (found_of m) (codes "limit") 32 r value n)
 
 pub explained : (words : List Text) (k : ErrorKind) (f : CliFault) → (k ≡ kind.OutOfMemory) ⊎ IsAmong k (fault_of program words) → Tells k f
     → Explains words f

@@ -1,7 +1,8 @@
 //! The command line, as `clap` parses it.
 ghost use Rattle.std.specs.Prelude.{◌≡◌, ◌∷◌, [], IfOk, Some, false};
+ghost use Rattle.clap.specs.Simple.{with_rule};
 ghost use Rattle.clap.specs.Words.{rule_of, app_of};
-ghost use Rattle.sim_run_options.specs.Asks.{top_rule, stop_rule, limit_rule, workers_rule, valued, program};
+ghost use Rattle.sim_run_options.specs.Asks.{top_rule, stop_rule, large_rule, limit_rule, workers_rule, valued, program};
 
 use clap::builder::ValueParser;
 use clap::{Arg, ArgAction, Command, value_parser};
@@ -14,7 +15,9 @@ every change of a signal on standard output.";
 /// The part of the help after the options.
 const MORE: &str = "Input:
   One design file of at most 1048576 bytes. --top names the entity to simulate,
-  with its last architecture.
+  with its last architecture. Its design has at most 65536 nets, processes and
+  drivers, and 16384 instances. With --large the text may have 268435456 bytes and
+  the design 1000000 of each; --limit is then 4294967295 by default and at most.
 
 Listing:
   First one line for each signal with its initial value, then one for each
@@ -100,13 +103,15 @@ fn stop_argument<'a>(alloc: Global) -> Arg<'a>
     number_argument(alloc, "stop", "FS", value_parser!(u64), latest, help)
 }
 
-/// `--limit N`, by default 10,000.
+/// `--limit N`; its default depends on `--large`.
 fn limit_argument<'a>(alloc: Global) -> Arg<'a>
     ensures rule { rule_of result ≡ limit_rule }
     ensures local { result.global ≡ false }
 {
-    let help = "The limit of simulation cycles, 1 to 1000000";
-    number_argument(alloc, "limit", "N", value_parser!(u32), "10000", help)
+    let help = "The limit of simulation cycles, 1 to 1000000 [default: 10000]";
+    valued_argument(alloc, "limit", "N")
+        .value_parser(value_parser!(u32))
+        .help(help)
 }
 
 /// `--workers N`, by default 1.
@@ -118,16 +123,35 @@ fn workers_argument<'a>(alloc: Global) -> Arg<'a>
     number_argument(alloc, "workers", "N", value_parser!(usize), "1", help)
 }
 
+/// `--large`.
+fn large_argument<'a>(alloc: Global) -> Arg<'a>
+    ensures rule { rule_of result ≡ large_rule }
+    ensures local { result.global ≡ false }
+{
+    Arg::new(alloc, "large")
+        .long("large")
+        .action(ArgAction::SetTrue)
+        .help("Larger limits of the text, the design and the cycles")
+}
+
+/// A command with the options that take a number.
+fn with_numbers<'a>(alloc: Global, command: Command<'a>) -> Result<Command<'a>, AllocError>
+    ensures { IfOk result (λ c. app_of c ≡ with_rule (with_rule (with_rule (app_of command.entry) stop_rule) limit_rule) workers_rule) }
+{
+    command
+        .arg(stop_argument(alloc))?
+        .arg(limit_argument(alloc))?
+        .arg(workers_argument(alloc))
+}
+
 /// The command line of the program, whose words do not include its name.
 pub(crate) fn command_line<'a>(alloc: Global) -> Result<Command<'a>, AllocError>
     ensures { IfOk result (λ c. app_of c ≡ program) }
 {
-    Command::new(alloc, "vsim")
+    let command = Command::new(alloc, "vsim")
         .about(ABOUT)
         .after_help(MORE)
         .no_binary_name(true)
-        .arg(top_argument(alloc))?
-        .arg(stop_argument(alloc))?
-        .arg(limit_argument(alloc))?
-        .arg(workers_argument(alloc))
+        .arg(top_argument(alloc))?;
+    with_numbers(alloc, command)?.arg(large_argument(alloc))
 }

@@ -4,9 +4,11 @@
 mod command;
 mod fault;
 pub mod laws;
+mod limits;
 mod options;
 mod reading;
 
 pub use fault::CliFault;
+pub use limits::Limits;
 pub use options::Options;
-pub use reading::read_options;
+pub use reading::{Request, read_options, read_request};

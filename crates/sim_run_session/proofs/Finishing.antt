@@ -8,13 +8,14 @@ use Rattle.sim_standard.specs.Cycle.{next_in}
 use Rattle.sim_standard.specs.Outcome.{FinishedAfter, HasOutcome, LimitReached, Outcome, PostponedDeltaAfter}
 use Rattle.sim_store.specs.WaveStore.{WaveStore, HasEnd}
 use Rattle.sim_store.specs.declared.store.Step.TheVariants as step
+use Rattle.sim_run_options.specs.declared.limits.Limits.{Limits}
 use Rattle.sim_run_options.specs.declared.options.Options.{Options}
 use Rattle.sim_run_listing.specs.Listing.{listing}
 use Rattle.sim_run_listing.specs.Writing.{AppendsPart}
 use Rattle.sim_run_session.specs.declared.error.RunError.{RunError}
 use Rattle.sim_run_session.specs.declared.error.RunError.TheVariants as refusal
 use Rattle.sim_run_session.specs.Run.{Finishes, IsCut, IsRefusalAlone, IsRunOf, Lists, ListsPart, history_of}
-use Rattle.sim_run_session.specs.Simulation.{HasDesign}
+use Rattle.sim_run_session.specs.Simulation.{HasDesignWithin}
 
 -- a store that is finished has the history of the run
 pub finishes : (design : Design) (options : Options) (run : WaveStore) (r : Result WaveStore RunError) → IsRunOf design options run
@@ -60,23 +61,24 @@ module _ (design : Design) (options : Options) (run : WaveStore) (of : IsRunOf d
   refuses_among (Err e) h = inr (inr (cut_short e h))
 
 -- what was written is part of the run's listing
-pub part_listed : (text : List ℕ) (options : Options) (run : WaveStore) (old new : Option (List ℕ))
-    → HasDesign text options (λ design. Finishes design options (history_of run))
-    → AppendsPart old new (listing (history_of run).names (history_of run).records) → HasDesign text options (λ design. ListsPart design options old new)
-part_listed text options run old new d written = record {
+pub part_listed : (limits : Limits) (text : List ℕ) (options : Options) (run : WaveStore) (old new : Option (List ℕ))
+    → HasDesignWithin limits text options (λ design. Finishes design options (history_of run))
+    → AppendsPart old new (listing (history_of run).names (history_of run).records)
+    → HasDesignWithin limits text options (λ design. ListsPart design options old new)
+part_listed limits text options run old new d written = record {
   design = d.design;
   is_design = d.is_design;
   holds = record { history = history_of run; finishes = d.holds; written = written };
 }
 
 -- what was written is the run's listing
-pub listed : (text : List ℕ) (options : Options) (run : WaveStore) (r : Result (Unit {0}) RunError) (old new : Option (List ℕ))
-    → HasDesign text options (λ design. Finishes design options (history_of run))
+pub listed : (limits : Limits) (text : List ℕ) (options : Options) (run : WaveStore) (r : Result (Unit {0}) RunError) (old new : Option (List ℕ))
+    → HasDesignWithin limits text options (λ design. Finishes design options (history_of run))
     → OnOk r (Appends old new (listing (history_of run).names (history_of run).records))
-    → OnOk r (HasDesign text options (λ design. Lists design options old new))
-listed text options run (Ok done) old new d written = record {
+    → OnOk r (HasDesignWithin limits text options (λ design. Lists design options old new))
+listed limits text options run (Ok done) old new d written = record {
   design = d.design;
   is_design = d.is_design;
   holds = record { history = history_of run; finishes = d.holds; written = written };
 }
-listed text options run (Err e) old new d written = tt
+listed limits text options run (Err e) old new d written = tt

@@ -2,94 +2,98 @@
 use Rattle.std.proofs.Common.{◌≡◌, ◌≢◌, ℕ, ◌≤◌, ◌<◌, subst, length-append, false, List, ◌++◌, length, Option, Some, None, inl, inr, refl, sym, ap}
 use Rattle.std.proofs.Common.{◌∙◌, append-nil, arith}
 use Rattle.std.specs.Prelude.{◌⊎◌, Result, Err}
-use Rattle.sim_text_tokens.specs.Limits.{most_bytes}
 use Rattle.sim_text_tokens.specs.declared.error.TextError.{TextError}
 use Rattle.sim_text_tokens.specs.declared.error.TextError.TheVariants as fault
-use Rattle.sim_text.specs.Texts.{IsFault}
+use Rattle.sim_text.specs.Texts.{IsFaultWithin}
 use Rattle.sim_flat.specs.declared.error.FlatError.{FlatError}
 use Rattle.sim_flat.specs.declared.error.FlatError.TheVariants as flat
+use Rattle.sim_run_options.specs.declared.limits.Limits.{Limits}
 use Rattle.sim_run_options.specs.declared.options.Options.{Options}
-use Rattle.sim_run_options.specs.Asks.{Asks, AreRefused}
-use Rattle.sim_run_options.specs.Options.{are_in_range}
+use Rattle.sim_run_options.specs.declared.reading.Request.{Request}
+use Rattle.sim_run_options.specs.Asks.{AsksFor, AreRefused, limits_of}
+use Rattle.sim_run_options.specs.Limits.{bytes_of}
+use Rattle.sim_run_options.specs.Options.{are_in_range_within}
 use Rattle.sim_run_session.specs.declared.error.RunError.{RunError}
 use Rattle.sim_run_session.specs.declared.error.RunError.TheVariants as refusal
 use Rattle.sim_run_session.specs.declared.program.Failure.{Failure}
 use Rattle.sim_run_session.specs.declared.program.Failure.TheVariants as failure
 use Rattle.sim_run_session.specs.Run.{IsCutShort}
 use Rattle.sim_run_session.specs.Session.{AreInRange, ReadsSource, IsWhole, HasText, HasRun, HasOptions, IsFailure, status_of}
-use Rattle.sim_run_session.specs.Simulation.{HasDesign, HasNoDesign, IsRefusal, IsRefusedText}
+use Rattle.sim_run_session.specs.Simulation.{HasDesignWithin, HasNoDesign, IsRefusalWithin, IsRefusedText}
 
 -- ---- the source
 
 -- the text that the reader had: it was read, or what was read is too long, and so is the text
-source_text : (unread left : Option (List ℕ)) (source : List ℕ) → ReadsSource unread left source
-    → (text : List ℕ) × IsWhole unread text × ((source ≡ text) ⊎ ((most_bytes < length source) × (most_bytes < length text)))
-source_text None left source r = (source, tt, inl refl)
-source_text (Some xs) None source r = absurd r.consumed
-source_text (Some xs) (Some ys) source r = elim r.enough [
+source_text : (bytes : ℕ) (unread left : Option (List ℕ)) (source : List ℕ) → ReadsSource bytes unread left source
+    → (text : List ℕ) × IsWhole unread text × ((source ≡ text) ⊎ ((bytes < length source) × (bytes < length text)))
+source_text bytes None left source r = (source, tt, inl refl)
+source_text bytes (Some xs) None source r = absurd r.consumed
+source_text bytes (Some xs) (Some ys) source r = elim r.enough [
   | inl long ↦ (xs, refl, inr (omega arith, let e = ap length r.consumed in omega (arith, e, length-append source ys)))
   | inr end ↦ (xs, refl, inl (sym (r.consumed ∙ (ap (λ (l : List ℕ). source ++ l) end ∙ append-nil source))))
 ]
 
-too_much : (source : List ℕ) → most_bytes < length source → length source ≤ most_bytes → ⊥
-too_much source long short = absurd (omega arith)
+too_much : (bytes : ℕ) (source : List ℕ) → bytes < length source → length source ≤ bytes → ⊥
+too_much bytes source long short = absurd (omega arith)
 
 -- what holds for a text that is not too long holds for the text that the reader had
-pub read_text : (unread left : Option (List ℕ)) (source : List ℕ) (Holds : List ℕ → Type 0) → ReadsSource unread left source
-    → length source ≤ most_bytes → Holds source → HasText unread Holds
-read_text unread left source Holds r short p =
-    let t = source_text unread left source r in
+pub read_text : (bytes : ℕ) (unread left : Option (List ℕ)) (source : List ℕ) (Holds : List ℕ → Type 0) → ReadsSource bytes unread left source
+    → length source ≤ bytes → Holds source → HasText unread Holds
+read_text bytes unread left source Holds r short p =
+    let t = source_text bytes unread left source r in
     elim t.2 [
       | inl e ↦ record { text = t.0; whole = t.1; holds = subst Holds e p }
-      | inr (long, _) ↦ absurd (too_much source long short)
+      | inr (long, _) ↦ absurd (too_much bytes source long short)
     ]
 
 -- ---- failures
 
 -- a refusal of a text that is too long is a refusal of every such text
-refusal_of : (source text : List ℕ) (options : Options) (e : RunError) → most_bytes < length source → most_bytes < length text
-    → IsRefusal source options e → IsRefusal text options e
-refusal_of source text options refusal.Options long longer p = p
-refusal_of source text options (refusal.Text fault.Memory) long longer p = tt
-refusal_of source text options (refusal.Text fault.TooLong) long longer p = longer
-refusal_of source text options (refusal.Text (fault.BadByte at)) long longer p = absurd (too_much source long p.short)
-refusal_of source text options (refusal.Text (fault.OpenComment at)) long longer p = absurd (too_much source long p.short)
-refusal_of source text options (refusal.Text (fault.BadLiteral at)) long longer p = absurd (too_much source long p.short)
-refusal_of source text options (refusal.Text (fault.Syntax at)) long longer p = absurd (too_much source long p.short)
-refusal_of source text options (refusal.Text (fault.TooDeep at)) long longer p = absurd (too_much source long p.short)
-refusal_of source text options (refusal.Text (fault.TimeRange at)) long longer p = absurd (too_much source long p.short)
-refusal_of source text options (refusal.Flat f) long longer p = absurd (too_much source long p.is_text.short)
-refusal_of source text options (refusal.CycleLimit l) long longer p = absurd (too_much source long p.1.is_design.is_text.short)
-refusal_of source text options refusal.PostponedDelta long longer p = absurd (too_much source long p.is_design.is_text.short)
-refusal_of source text options refusal.Stranger long longer p = absurd p
-refusal_of source text options refusal.Memory long longer p = absurd (too_much source long p.is_design.is_text.short)
-refusal_of source text options refusal.Write long longer p = absurd p
+refusal_of : (limits : Limits) (source text : List ℕ) (options : Options) (e : RunError) → bytes_of limits < length source → bytes_of limits < length text
+    → IsRefusalWithin limits source options e → IsRefusalWithin limits text options e
+refusal_of limits source text options refusal.Options long longer p = p
+refusal_of limits source text options (refusal.Text fault.Memory) long longer p = tt
+refusal_of limits source text options (refusal.Text fault.TooLong) long longer p = longer
+refusal_of limits source text options (refusal.Text (fault.BadByte at)) long longer p = absurd (too_much (bytes_of limits) source long p.short)
+refusal_of limits source text options (refusal.Text (fault.OpenComment at)) long longer p = absurd (too_much (bytes_of limits) source long p.short)
+refusal_of limits source text options (refusal.Text (fault.BadLiteral at)) long longer p = absurd (too_much (bytes_of limits) source long p.short)
+refusal_of limits source text options (refusal.Text (fault.Syntax at)) long longer p = absurd (too_much (bytes_of limits) source long p.short)
+refusal_of limits source text options (refusal.Text (fault.TooDeep at)) long longer p = absurd (too_much (bytes_of limits) source long p.short)
+refusal_of limits source text options (refusal.Text (fault.TimeRange at)) long longer p = absurd (too_much (bytes_of limits) source long p.short)
+refusal_of limits source text options (refusal.Flat f) long longer p = absurd (too_much (bytes_of limits) source long p.is_text.short)
+refusal_of limits source text options (refusal.CycleLimit l) long longer p = absurd (too_much (bytes_of limits) source long p.1.is_design.is_text.short)
+refusal_of limits source text options refusal.PostponedDelta long longer p = absurd (too_much (bytes_of limits) source long p.is_design.is_text.short)
+refusal_of limits source text options refusal.Stranger long longer p = absurd p
+refusal_of limits source text options refusal.Memory long longer p = absurd (too_much (bytes_of limits) source long p.is_design.is_text.short)
+refusal_of limits source text options refusal.Write long longer p = absurd p
 
-text_refused : (unread left : Option (List ℕ)) (source : List ℕ) (options : Options) (e : RunError) → ReadsSource unread left source
-    → IsRefusal source options e → HasText unread (λ text. IsRefusal text options e)
-text_refused unread left source options e r p =
-    let t = source_text unread left source r in
+text_refused : (limits : Limits) (unread left : Option (List ℕ)) (source : List ℕ) (options : Options) (e : RunError)
+    → ReadsSource (bytes_of limits) unread left source → IsRefusalWithin limits source options e
+    → HasText unread (λ text. IsRefusalWithin limits text options e)
+text_refused limits unread left source options e r p =
+    let t = source_text (bytes_of limits) unread left source r in
     elim t.2 [
-      | inl is ↦ record { text = t.0; whole = t.1; holds = subst (λ text. IsRefusal text options e) is p }
-      | inr (long, longer) ↦ record { text = t.0; whole = t.1; holds = refusal_of source t.0 options e long longer p }
+      | inl is ↦ record { text = t.0; whole = t.1; holds = subst (λ text. IsRefusalWithin limits text options e) is p }
+      | inr (long, longer) ↦ record { text = t.0; whole = t.1; holds = refusal_of limits source t.0 options e long longer p }
     ]
 
-pub run_fails : (unread left : Option (List ℕ)) (source : List ℕ) (options : Options) (e : RunError) → ReadsSource unread left source
-    → (e ≢ refusal.Write → IsRefusal source options e) → (e ≢ refusal.Options → AreInRange options) → IsFailure unread options (failure.Run e)
-run_fails unread left source options refusal.Write r p i = i (λ q. absurd cc)
-run_fails unread left source options refusal.Options r p i = text_refused unread left source options refusal.Options r (p (λ q. absurd cc))
-run_fails unread left source options (refusal.Text f) r p i =
-    (i (λ q. absurd cc), text_refused unread left source options (refusal.Text f) r (p (λ q. absurd cc)))
-run_fails unread left source options (refusal.Flat f) r p i =
-    (i (λ q. absurd cc), text_refused unread left source options (refusal.Flat f) r (p (λ q. absurd cc)))
-run_fails unread left source options (refusal.CycleLimit l) r p i =
-    (i (λ q. absurd cc), text_refused unread left source options (refusal.CycleLimit l) r (p (λ q. absurd cc)))
-run_fails unread left source options refusal.PostponedDelta r p i =
-    (i (λ q. absurd cc), text_refused unread left source options refusal.PostponedDelta r (p (λ q. absurd cc)))
-run_fails unread left source options refusal.Stranger r p i =
-    (i (λ q. absurd cc), text_refused unread left source options refusal.Stranger r (p (λ q. absurd cc)))
-run_fails unread left source options refusal.Memory r p i =
-    (i (λ q. absurd cc), text_refused unread left source options refusal.Memory r (p (λ q. absurd cc)))
+pub run_fails : (limits : Limits) (unread left : Option (List ℕ)) (source : List ℕ) (options : Options) (e : RunError)
+    → ReadsSource (bytes_of limits) unread left source → (e ≢ refusal.Write → IsRefusalWithin limits source options e)
+    → (e ≢ refusal.Options → AreInRange limits options) → IsFailure limits unread options (failure.Run e)
+run_fails limits unread left source options refusal.Write r p i = i (λ q. absurd cc)
+run_fails limits unread left source options refusal.Options r p i = text_refused limits unread left source options refusal.Options r (p (λ q. absurd cc))
+run_fails limits unread left source options (refusal.Text f) r p i =
+    (i (λ q. absurd cc), text_refused limits unread left source options (refusal.Text f) r (p (λ q. absurd cc)))
+run_fails limits unread left source options (refusal.Flat f) r p i =
+    (i (λ q. absurd cc), text_refused limits unread left source options (refusal.Flat f) r (p (λ q. absurd cc)))
+run_fails limits unread left source options (refusal.CycleLimit l) r p i =
+    (i (λ q. absurd cc), text_refused limits unread left source options (refusal.CycleLimit l) r (p (λ q. absurd cc)))
+run_fails limits unread left source options refusal.PostponedDelta r p i =
+    (i (λ q. absurd cc), text_refused limits unread left source options refusal.PostponedDelta r (p (λ q. absurd cc)))
+run_fails limits unread left source options refusal.Stranger r p i =
+    (i (λ q. absurd cc), text_refused limits unread left source options refusal.Stranger r (p (λ q. absurd cc)))
+run_fails limits unread left source options refusal.Memory r p i =
+    (i (λ q. absurd cc), text_refused limits unread left source options refusal.Memory r (p (λ q. absurd cc)))
 
 pub failed_write : (e : RunError) → ◌≡◌ {A = Result (Unit {0}) Failure} (Err (failure.Run e)) (Err (failure.Run refusal.Write)) → ◌≡◌
     {A = Result (Unit {0}) RunError} (Err e) (Err refusal.Write)
@@ -151,26 +155,34 @@ flat_not_words : (e : FlatError) → FlatStatus e → status_of (failure.Run (re
 flat_not_words e (inl h) is = let four = h.1 in absurd (omega arith)
 flat_not_words e (inr h) is = let one = h.1 in absurd (omega arith)
 
-module _ (words : List (List ℕ)) (unread : Option (List ℕ)) (options : Options) (a : Asks words options) where
-  pub has_run : AreInRange options → (Holds : List ℕ → Options → Type 0) → HasText unread (λ text. Holds text options) → HasRun words unread Holds
+module _ (words : List (List ℕ)) (unread : Option (List ℕ)) (request : Request) (a : AsksFor words request) where
+  abbrev limits : Limits
+  limits = request.limits
+
+  abbrev options : Options
+  options = request.options
+
+  pub has_run : AreInRange limits options → (Holds : Limits → List ℕ → Options → Type 0) → HasText unread (λ text. Holds limits text options)
+      → HasRun words unread (Holds (limits_of words))
   has_run i Holds p = record {
     options = options;
-    asked = a;
-    in_range = i;
-    read = p;
+    asked = a.options;
+    in_range = subst (λ (l : Limits). AreInRange l options) a.limits i;
+    read = subst (λ (l : Limits). HasText unread (λ text. Holds l text options)) a.limits p;
   }
 
-  faulty : (e : TextError) → e ≢ fault.Memory → AreInRange options × HasText unread (λ text. IsFault text e) → HasRun words unread IsRefusedText
+  faulty : (e : TextError) → e ≢ fault.Memory → AreInRange limits options × HasText unread (λ text. IsFaultWithin (bytes_of limits) text e)
+      → HasRun words unread (IsRefusedText (limits_of words))
   faulty e known p = has_run p.0 IsRefusedText
       (record { text = p.1.text; whole = p.1.whole; holds = inl (record { found = e; known = known; is = p.1.holds }) })
 
   unelaborated : (e : FlatError) → FlatStatus e → status_of (failure.Run (refusal.Flat e)) ≡ 1
-      → AreInRange options × HasText unread (λ text. HasNoDesign text options e) → HasRun words unread IsRefusedText
+      → AreInRange limits options × HasText unread (λ text. HasNoDesign limits text options e) → HasRun words unread (IsRefusedText (limits_of words))
   unelaborated e (inl h) is p = let four = h.1 in absurd (omega arith)
   unelaborated e (inr h) is p = has_run p.0 IsRefusedText
       (record { text = p.1.text; whole = p.1.whole; holds = inr (record { fault = e; known = h.0; is = p.1.holds }) })
 
-  pub status_1 : (f : Failure) → status_of f ≡ 1 → IsFailure unread options f → HasRun words unread IsRefusedText
+  pub status_1 : (f : Failure) → status_of f ≡ 1 → IsFailure limits unread options f → HasRun words unread (IsRefusedText (limits_of words))
   status_1 failure.Read e p = absurd (omega arith)
   status_1 failure.Memory e p = absurd (omega arith)
   status_1 (failure.Run refusal.Options) e p = absurd (omega arith)
@@ -189,8 +201,8 @@ module _ (words : List (List ℕ)) (unread : Option (List ℕ)) (options : Optio
   status_1 (failure.Run refusal.Stranger) e p = absurd (omega arith)
   status_1 (failure.Run refusal.Memory) e p = absurd (omega arith)
 
-  pub status_3 : (f : Failure) → status_of f ≡ 3 → IsFailure unread options f
-      → HasRun words unread (λ text o. HasDesign text o (λ design. IsCutShort design o))
+  pub status_3 : (f : Failure) → status_of f ≡ 3 → IsFailure limits unread options f
+      → HasRun words unread (λ text o. HasDesignWithin (limits_of words) text o (λ design. IsCutShort design o))
   status_3 failure.Read e p = absurd (omega arith)
   status_3 failure.Memory e p = absurd (omega arith)
   status_3 (failure.Run refusal.Options) e p = absurd (omega arith)
@@ -198,18 +210,18 @@ module _ (words : List (List ℕ)) (unread : Option (List ℕ)) (options : Optio
   status_3 (failure.Run (refusal.Flat f)) e p = absurd (flat_not_limit f (flat_status f) e)
   status_3 (failure.Run (refusal.CycleLimit l)) e p =
       let d = p.1.holds.1 in
-      has_run p.0 (λ text o. HasDesign text o (λ design. IsCutShort design o))
+      has_run p.0 (λ l text o. HasDesignWithin l text o (λ design. IsCutShort design o))
       (record { text = p.1.text; whole = p.1.whole; holds = record { design = d.design; is_design = d.is_design; holds = inl d.holds } })
   status_3 (failure.Run refusal.PostponedDelta) e p =
       let d = p.1.holds in
-      has_run p.0 (λ text o. HasDesign text o (λ design. IsCutShort design o))
+      has_run p.0 (λ l text o. HasDesignWithin l text o (λ design. IsCutShort design o))
       (record { text = p.1.text; whole = p.1.whole; holds = record { design = d.design; is_design = d.is_design; holds = inr d.holds } })
   status_3 (failure.Run refusal.Stranger) e p = absurd p.1.holds
   status_3 (failure.Run refusal.Write) e p = absurd (omega arith)
   status_3 (failure.Run refusal.Memory) e p = absurd (omega arith)
 
-  out_of_range : (unread' : Option (List ℕ)) (f : Failure) → status_of f ≡ 2 → IsFailure unread' options f
-      → are_in_range options.stop options.limit options.workers ≡ false
+  out_of_range : (unread' : Option (List ℕ)) (f : Failure) → status_of f ≡ 2 → IsFailure limits unread' options f
+      → are_in_range_within limits options.stop options.limit options.workers ≡ false
   out_of_range unread' failure.Read e p = absurd (omega arith)
   out_of_range unread' failure.Memory e p = absurd (omega arith)
   out_of_range unread' (failure.Run refusal.Options) e p = p.holds
@@ -221,15 +233,19 @@ module _ (words : List (List ℕ)) (unread : Option (List ℕ)) (options : Optio
   out_of_range unread' (failure.Run refusal.Stranger) e p = absurd (omega arith)
   out_of_range unread' (failure.Run refusal.Memory) e p = absurd (omega arith)
 
-  pub status_2 : (f : Failure) → status_of f ≡ 2 → IsFailure unread options f
-      → AreRefused words ⊎ HasOptions words (λ o. are_in_range o.stop o.limit o.workers ≡ false)
-  status_2 f e p = inr (record { options = options; asked = a; holds = out_of_range unread f e p })
+  pub status_2 : (f : Failure) → status_of f ≡ 2 → IsFailure limits unread options f
+      → AreRefused words ⊎ HasOptions words (λ o. are_in_range_within (limits_of words) o.stop o.limit o.workers ≡ false)
+  status_2 f e p = inr (record {
+    options = options;
+    asked = a.options;
+    holds = subst (λ (l : Limits). are_in_range_within l options.stop options.limit options.workers ≡ false) a.limits (out_of_range unread f e p);
+  })
 
   -- nothing was written, or a write failed
-  pub stopped : (Holds : List ℕ → Options → Type 0) {Quiet Helped : Type 0} (f : Failure) → IsFailure unread options f
+  pub stopped : (Holds : Limits → List ℕ → Options → Type 0) {Quiet Helped : Type 0} (f : Failure) → IsFailure limits unread options f
       → (f ≢ failure.Run refusal.Write → Quiet)
-      → (◌≡◌ {A = Result (Unit {0}) Failure} (Err f) (Err (failure.Run refusal.Write)) → HasText unread (λ text. Holds text options))
-      → Quiet ⊎ (HasRun words unread Holds ⊎ Helped)
+      → (◌≡◌ {A = Result (Unit {0}) Failure} (Err f) (Err (failure.Run refusal.Write)) → HasText unread (λ text. Holds limits text options))
+      → Quiet ⊎ (HasRun words unread (Holds (limits_of words)) ⊎ Helped)
   stopped Holds failure.Read failed quiet part = inl (quiet (λ e. absurd cc))
   stopped Holds failure.Memory failed quiet part = inl (quiet (λ e. absurd cc))
   stopped Holds (failure.Run refusal.Options) failed quiet part = inl (quiet (λ e. absurd cc))

@@ -6,30 +6,35 @@ use Rattle.sim_store.specs.WaveStore.{WaveStore}
 use Rattle.sim_standard.specs.Behaviour.{behaviour_of}
 use Rattle.sim_run_session.specs.declared.error.RunError.{RunError}
 use Rattle.sim_run_session.specs.declared.error.RunError.TheVariants as refusal
+use Rattle.sim_run_options.specs.declared.limits.Limits.{Limits}
 use Rattle.sim_run_options.specs.declared.options.Options.{Options}
 use Rattle.sim_run_session.specs.Run.{Finishes, IsCut, IsRefusalAlone, history_of}
-use Rattle.sim_run_session.specs.Simulation.{IsDesignOf, HasDesign, IsRefusal}
+use Rattle.sim_run_session.specs.Simulation.{IsDesignWithin, HasDesignWithin, IsRefusalWithin}
 
-stopped : (text : List ℕ) (options : Options) (design : Design) (e : RunError) → IsDesignOf text options design
-    → IsRefusalAlone (behaviour_of design) options e → IsRefusal text options e
-stopped text options design e d (inl p) = subst (IsRefusal text options) (sym p) (record { design = design; is_design = d; holds = tt })
-stopped text options design e d (inr (inl p)) = subst (IsRefusal text options) (sym p.0) (refl, record { design = design; is_design = d; holds = p.1 })
-stopped text options design e d (inr (inr p)) = subst (IsRefusal text options) (sym p.0) (record { design = design; is_design = d; holds = p.1 })
+stopped : (limits : Limits) (text : List ℕ) (options : Options) (design : Design) (e : RunError) → IsDesignWithin limits text options design
+    → IsRefusalAlone (behaviour_of design) options e → IsRefusalWithin limits text options e
+stopped limits text options design e d (inl p) =
+    subst (IsRefusalWithin limits text options) (sym p) (record { design = design; is_design = d; holds = tt })
+stopped limits text options design e d (inr (inl p)) =
+    subst (IsRefusalWithin limits text options) (sym p.0) (refl, record { design = design; is_design = d; holds = p.1 })
+stopped limits text options design e d (inr (inr p)) =
+    subst (IsRefusalWithin limits text options) (sym p.0) (record { design = design; is_design = d; holds = p.1 })
 
-module _ (text : List ℕ) (options : Options) (design : Design) where
-  pub text_run : (r : Result WaveStore RunError) → IsDesignOf text options design
+module _ (limits : Limits) (text : List ℕ) (options : Options) (design : Design) where
+  pub text_run : (r : Result WaveStore RunError) → IsDesignWithin limits text options design
       → IfOk r (λ run. Finishes (behaviour_of design) options (history_of run)) → IfErr r (IsRefusalAlone (behaviour_of design) options)
-      → MatchResult r (λ run. HasDesign text options (λ b. Finishes b options (history_of run))) (λ e. IsRefusal text options e)
+      → MatchResult r (λ run. HasDesignWithin limits text options (λ b. Finishes b options (history_of run))) (λ e. IsRefusalWithin limits text options e)
   text_run (Ok run) d f e = record { design = design; is_design = d; holds = f }
-  text_run (Err e) d f why = stopped text options design e d why
+  text_run (Err e) d f why = stopped limits text options design e d why
 
-  pub text_run_found : (r : Result (Option WaveStore) RunError) → IsDesignOf text options design
+  pub text_run_found : (r : Result (Option WaveStore) RunError) → IsDesignWithin limits text options design
       → IfOk r (λ found. IfSome found (λ run. Finishes (behaviour_of design) options (history_of run)))
       → IfErr r (IsCut (behaviour_of design) options)
-      → MatchResult r (λ found. IfSome found (λ run. HasDesign text options (λ b. Finishes b options (history_of run)))) (λ e. IsRefusal text options e)
+      → MatchResult r (λ found. IfSome found (λ run. HasDesignWithin limits text options (λ b. Finishes b options (history_of run))))
+      (λ e. IsRefusalWithin limits text options e)
   text_run_found (Ok None) d f e = tt
   text_run_found (Ok (Some run)) d f e = record { design = design; is_design = d; holds = f }
-  text_run_found (Err e) d f why = stopped text options design e d (inr why)
+  text_run_found (Err e) d f why = stopped limits text options design e d (inr why)
 
 -- A listing is refused only for a failed write.
 pub write_failed : (r : Result (Unit {0}) RunError) (Why : RunError → Type 0) → IfErr r (λ e. e ≡ refusal.Write)

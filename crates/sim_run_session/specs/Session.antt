@@ -2,18 +2,18 @@
 use Rattle.std.specs.Prelude.{◌≡◌, ℕ, ◌+◌, List, length, Option, Some, None, true, ◌⊎◌}
 use Rattle.std.specs.String.{string_bytes}
 use Rattle.std.specs.Io.KnownBytes.{Appends, Keeps, Consumes, IsAtEnd}
-use Rattle.sim_text_tokens.specs.Limits.{most_bytes}
 use Rattle.sim_text_tokens.specs.declared.error.TextError.TheVariants as fault
 use Rattle.sim_flat.specs.declared.error.FlatError.TheVariants as flat
 use Rattle.sim_run_options.specs.declared.fault.CliFault.{CliFault}
 use Rattle.sim_run_options.specs.declared.fault.CliFault.TheVariants as cli
 use Rattle.sim_run_options.specs.declared.options.Options.{Options}
-use Rattle.sim_run_options.specs.Asks.{Asks, AsksForHelp}
-use Rattle.sim_run_options.specs.Options.{are_in_range}
+use Rattle.sim_run_options.specs.declared.limits.Limits.{Limits}
+use Rattle.sim_run_options.specs.Asks.{Asks, AsksForHelp, limits_of}
+use Rattle.sim_run_options.specs.Options.{are_in_range_within}
 use Rattle.sim_run_session.specs.declared.error.RunError.TheVariants as refusal
 use Rattle.sim_run_session.specs.declared.program.Failure.{Failure}
 use Rattle.sim_run_session.specs.declared.program.Failure.TheVariants as failure
-use Rattle.sim_run_session.specs.Simulation.{IsRefusal}
+use Rattle.sim_run_session.specs.Simulation.{IsRefusalWithin}
 use Rattle.sim_run_listing.specs.Writing.{AppendsPart}
 
 -- these are the bytes that a reader had, if those are known
@@ -22,9 +22,9 @@ IsWhole None text = Unit {0}
 IsWhole (Some bytes) text = bytes ≡ text
 
 -- What was read, up to one byte more than a text may have.
-pub record ReadsSource (old new : Option (List ℕ)) (text : List ℕ) : Type 0 where
+pub record ReadsSource (bytes : ℕ) (old new : Option (List ℕ)) (text : List ℕ) : Type 0 where
   pub consumed : Consumes old new text
-  pub enough : (length text ≡ most_bytes + 1) ⊎ IsAtEnd new
+  pub enough : (length text ≡ bytes + 1) ⊎ IsAtEnd new
 
 -- The reader had a text for which this holds.
 pub record HasText (unread : Option (List ℕ)) (Holds : List ℕ → Type 0) : Type 0 where
@@ -32,15 +32,16 @@ pub record HasText (unread : Option (List ℕ)) (Holds : List ℕ → Type 0) : 
   pub whole : IsWhole unread text
   pub holds : Holds text
 
--- the options are in their ranges
-abbrev pub AreInRange : Options → Type 0
-AreInRange options = are_in_range options.stop options.limit options.workers ≡ true
+-- The options are in their ranges.
+abbrev pub AreInRange : Limits → Options → Type 0
+AreInRange limits options = are_in_range_within limits options.stop options.limit options.workers ≡ true
 
--- The words ask for a run of the text that the reader had, with options in their ranges, and this holds for the text and the options.
+-- The words ask for a run of the text that the reader had, with options in their ranges within the limits that the words ask for, and this holds for the
+-- text and the options.
 pub record HasRun (words : List (List ℕ)) (unread : Option (List ℕ)) (Holds : List ℕ → Options → Type 0) : Type 0 where
   pub options : Options
   pub asked : Asks words options
-  pub in_range : AreInRange options
+  pub in_range : AreInRange (limits_of words) options
   pub read : HasText unread (λ text. Holds text options)
 
 -- The words ask for a run with options for which this holds.
@@ -62,13 +63,13 @@ IsAnswerTo (cli.Help text) status old new = ((status ≡ 0) × Appends old new (
 IsAnswerTo (cli.Refused text) status old new = (status ≡ 2) × Keeps old new
 IsAnswerTo cli.Memory status old new = (status ≡ 4) × Keeps old new
 
--- Why the program failed, in a run of the text that the reader had, with these options.
-abbrev pub IsFailure : Option (List ℕ) → Options → Failure → Type 0
-IsFailure unread options (failure.Run refusal.Write) = AreInRange options
-IsFailure unread options (failure.Run refusal.Options) = HasText unread (λ text. IsRefusal text options refusal.Options)
-IsFailure unread options (failure.Run e) = AreInRange options × HasText unread (λ text. IsRefusal text options e)
-IsFailure unread options failure.Read = Unit {0}
-IsFailure unread options failure.Memory = Unit {0}
+-- Why the program failed, in a run of the text that the reader had, with these options and limits.
+abbrev pub IsFailure : Limits → Option (List ℕ) → Options → Failure → Type 0
+IsFailure limits unread options (failure.Run refusal.Write) = AreInRange limits options
+IsFailure limits unread options (failure.Run refusal.Options) = HasText unread (λ text. IsRefusalWithin limits text options refusal.Options)
+IsFailure limits unread options (failure.Run e) = AreInRange limits options × HasText unread (λ text. IsRefusalWithin limits text options e)
+IsFailure limits unread options failure.Read = Unit {0}
+IsFailure limits unread options failure.Memory = Unit {0}
 
 -- the status of the program (0 is success)
 abbrev pub status_of : Failure → ℕ

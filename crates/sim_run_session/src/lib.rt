@@ -4,11 +4,13 @@
 mod error;
 mod program;
 mod runs;
+mod settings;
 mod simulation;
 mod team;
 
 pub use error::RunError;
 pub use program::{session, session_with_hints};
 pub use runs::{begun_run, finished_run, run_without_lock, write_run};
+pub use settings::Settings;
 pub use sim_run_team::Hints;
-pub use simulation::{elaborate, simulate, simulate_with_hints};
+pub use simulation::{elaborate, elaborate_within, simulate, simulate_within};

@@ -3,21 +3,23 @@ ghost use Rattle.std.specs.Prelude.{◌≡◌, ◌≢◌, ◌≤◌, ◌<◌, �
 ghost use Rattle.std.specs.Io.KnownBytes.{Appends, Keeps};
 ghost use Rattle.std.specs.Str.Parse.{starts_with_minus};
 ghost use Rattle.sim_text_tokens.specs.Pieces.{Text};
-ghost use Rattle.sim_run_options.specs.Asks.{AreRefused};
-ghost use Rattle.sim_run_options.specs.Options.{are_in_range};
+ghost use Rattle.sim_run_options.specs.Asks.{AreRefused, limits_of};
+ghost use Rattle.sim_run_options.specs.Limits.{bytes_of};
+ghost use Rattle.sim_run_options.specs.Options.{are_in_range_within};
 ghost use Rattle.sim_run_session.specs.declared.error.RunError.TheVariants as refusal;
 ghost use Rattle.sim_run_session.specs.declared.program.Failure.TheVariants as failure;
 ghost use Rattle.sim_run_session.specs.Run.{IsCutShort, Lists, ListsPart};
 ghost use Rattle.sim_run_session.specs.Session.{ReadsSource, HasText, HasRun, HasOptions, HasHelp, IsAnswerTo, IsFailure, status_of};
-ghost use Rattle.sim_run_session.specs.Simulation.{HasDesign, IsRefusedText};
+ghost use Rattle.sim_run_session.specs.Simulation.{HasDesignWithin, IsRefusedText};
 ghost use Rattle.sim_run_listing.specs.Writing.{AppendsPart};
 
 use crate::error::RunError;
-use crate::simulation::simulate_with_hints;
+use crate::settings::Settings;
+use crate::simulation::simulate_within;
 use arrayvec::ArrayVec;
 use sim_flat::FlatError;
 use sim_run_listing::write_whole;
-use sim_run_options::{CliFault, Options, read_options};
+use sim_run_options::{CliFault, Limits, Options, read_request};
 use sim_run_team::Hints;
 use sim_text::TextError;
 use std::alloc::Global;
@@ -25,12 +27,6 @@ use std::io::{Read, Write};
 use std::sync::Wait;
 use std::thread::Threads;
 use thiserror::Error;
-
-/// One byte more than a text may have: enough to see that a text is too long.
-const MOST_BYTES: usize = 1_048_577;
-
-/// The most reads. Each gives at least one byte, so fewer suffice.
-const MOST_READS: u32 = 2_097_154;
 
 /// The number of bytes that a read asks for.
 const CHUNK: usize = 16_384;
@@ -67,22 +63,24 @@ fn status_of_failure(failure: Failure) -> u8
     }
 }
 
-/// The remaining input, up to one byte more than a text may have.
-fn read_source<R: Read>(alloc: Global, input: &mut R) -> Result<Vec<u8>, Failure>
-    ensures source { IfOk result (λ text. ReadsSource (R.remaining input.old) (R.remaining input.new) text.items) }
+/// The remaining input, up to one byte more than a text may have, which is enough to see that it is
+/// too long. Each read gives at least one byte, so half as many would do.
+fn read_source<R: Read>(alloc: Global, input: &mut R, limits: Limits) -> Result<Vec<u8>, Failure>
+    ensures source { IfOk result (λ text. ReadsSource (bytes_of limits) (R.remaining input.old) (R.remaining input.new) text.items) }
     ensures failed { IfErr result (λ f. (f ≡ Failure.Read) ⊎ (f ≡ Failure.Memory)) }
 {
+    let most = limits.bytes() + 1;
     let mut text = Vec::new(alloc);
     let mut chunk = [0; CHUNK];
-    for _ in 0..MOST_READS {
-        let room = CHUNK.min(MOST_BYTES - text.len());
+    for _ in 0..2 * most {
+        let room = CHUNK.min(most - text.len());
         match input.read(&mut chunk[..room]) {
             Ok(0) => return Ok(text),
             Ok(count) => {
                 if text.extend_from_slice(&chunk[..count]).is_err() {
                     return Err(Failure::Memory);
                 }
-                if text.len() == MOST_BYTES {
+                if text.len() == most {
                     return Ok(text);
                 }
             }
@@ -97,20 +95,20 @@ fn carry_out<T: Threads + Wait + Sync, R: Read, W: Write>(
     rt: &T,
     alloc: Global,
     options: &Options,
-    hints: Hints,
+    settings: Settings,
     input: &mut R,
     out: &mut W,
 ) -> Result<(), Failure>
-    ensures range { OnOk result (are_in_range options.now.stop options.now.limit options.now.workers ≡ true) }
-    ensures listed { OnOk result (HasText (R.remaining input.old) (λ text. HasDesign text options.now (λ design.
+    ensures range { OnOk result (are_in_range_within settings.limits options.now.stop options.now.limit options.now.workers ≡ true) }
+    ensures listed { OnOk result (HasText (R.remaining input.old) (λ text. HasDesignWithin settings.limits text options.now (λ design.
         Lists design options.now (W.contents out.old) (W.contents out.new)))) }
-    ensures part { result ≡ Err (failure.Run refusal.Write) → HasText (R.remaining input.old) (λ text. HasDesign text options.now (λ design.
-        ListsPart design options.now (W.contents out.old) (W.contents out.new))) }
-    ensures failed { IfErr result (λ f. IsFailure (R.remaining input.old) options.now f) }
+    ensures part { result ≡ Err (failure.Run refusal.Write) → HasText (R.remaining input.old) (λ text.
+        HasDesignWithin settings.limits text options.now (λ design. ListsPart design options.now (W.contents out.old) (W.contents out.new))) }
+    ensures failed { IfErr result (λ f. IsFailure settings.limits (R.remaining input.old) options.now f) }
     ensures quiet { IfErr result (λ f. f ≢ failure.Run refusal.Write → Keeps (W.contents out.old) (W.contents out.new)) }
 {
-    let source = read_source(alloc, input)?;
-    match simulate_with_hints(rt, alloc, source.as_slice(), options, hints, out) {
+    let source = read_source(alloc, input, settings.limits)?;
+    match simulate_within(rt, alloc, source.as_slice(), options, settings, out) {
         Ok(()) => Ok(()),
         Err(refusal) => Err(Failure::Run(refusal)),
     }
@@ -157,7 +155,8 @@ fn explain<W: Write, E: Write>(fault: &CliFault, out: &mut W, err: &mut E) -> u8
 /// returns its status: 0 if the listing was written, 1 if the text was refused, 2 if the words or
 /// the options were refused, 3 if the run needs more cycles than the limit or a postponed process
 /// makes a delta cycle follow, 4 if memory ran out, or reading or writing failed. This holds for
-/// any number of workers. It reads at most 1,048,577 bytes, by at most 2,097,154 reads.
+/// any number of workers. It reads at most one byte more than a text may have, by at most twice as
+/// many reads: 1,048,577 and 2,097,154, and with `--large` 268,435,457 and 536,870,914.
 ///
 /// If the words ask for help, its text goes to `out`, with status 0; if they are refused, the lines
 /// of `clap` that say why go to `err`. In both cases nothing is read.
@@ -171,22 +170,23 @@ pub fn session<T: Threads + Wait + Sync, R: Read, W: Write, E: Write>(
 ) -> u8
     ensures status { result ≤ 4 }
     ensures success { result ≡ 0 → HasRun (map string_bytes words.items) (R.remaining input.old) (λ text options.
-        HasDesign text options (λ design. Lists design options (W.contents out.old) (W.contents out.new)))
+        HasDesignWithin (limits_of (map string_bytes words.items)) text options (λ design. Lists design options (W.contents out.old) (W.contents out.new)))
         ⊎ HasHelp (map string_bytes words.items) (λ help. Appends (W.contents out.old) (W.contents out.new) help) }
-    ensures text { result ≡ 1 → HasRun (map string_bytes words.items) (R.remaining input.old) (λ text options. IsRefusedText text options) }
+    ensures text { result ≡ 1 → HasRun (map string_bytes words.items) (R.remaining input.old) (λ text options.
+        IsRefusedText (limits_of (map string_bytes words.items)) text options) }
     ensures words { result ≡ 2 → AreRefused (map string_bytes words.items) ⊎ HasOptions (map string_bytes words.items) (λ options.
-        are_in_range options.stop options.limit options.workers ≡ false) }
+        are_in_range_within (limits_of (map string_bytes words.items)) options.stop options.limit options.workers ≡ false) }
     // `--top NAME` alone is not refused.
     ensures alone { (name : Text) → map string_bytes words.items ≡ codes "--top" ∷ name ∷ [] → starts_with_minus name ≡ false → result ≢ 2 }
     ensures limit { result ≡ 3 →
         HasRun (map string_bytes words.items) (R.remaining input.old) (λ text options.
-        HasDesign text options (λ design. IsCutShort design options)) }
+        HasDesignWithin (limits_of (map string_bytes words.items)) text options (λ design. IsCutShort design options)) }
     ensures quiet { 0 < result → result < 4 → Keeps (W.contents out.old) (W.contents out.new) }
     // Memory ran out, or reading or writing failed: nothing was written, or a proper prefix of the
     // listing or of the help.
     ensures stopped { result ≡ 4 → Keeps (W.contents out.old) (W.contents out.new)
         ⊎ (HasRun (map string_bytes words.items) (R.remaining input.old) (λ text options.
-        HasDesign text options (λ design. ListsPart design options (W.contents out.old) (W.contents out.new)))
+        HasDesignWithin (limits_of (map string_bytes words.items)) text options (λ design. ListsPart design options (W.contents out.old) (W.contents out.new)))
         ⊎ HasHelp (map string_bytes words.items) (λ help. AppendsPart (W.contents out.old) (W.contents out.new) help)) }
 {
     session_with_hints(rt, alloc, words, Hints::measured(), input, out, err)
@@ -205,29 +205,34 @@ pub fn session_with_hints<T: Threads + Wait + Sync, R: Read, W: Write, E: Write>
 ) -> u8
     ensures status { result ≤ 4 }
     ensures success { result ≡ 0 → HasRun (map string_bytes words.items) (R.remaining input.old) (λ text options.
-        HasDesign text options (λ design. Lists design options (W.contents out.old) (W.contents out.new)))
+        HasDesignWithin (limits_of (map string_bytes words.items)) text options (λ design. Lists design options (W.contents out.old) (W.contents out.new)))
         ⊎ HasHelp (map string_bytes words.items) (λ help. Appends (W.contents out.old) (W.contents out.new) help) }
-    ensures text { result ≡ 1 → HasRun (map string_bytes words.items) (R.remaining input.old) (λ text options. IsRefusedText text options) }
+    ensures text { result ≡ 1 → HasRun (map string_bytes words.items) (R.remaining input.old) (λ text options.
+        IsRefusedText (limits_of (map string_bytes words.items)) text options) }
     ensures words { result ≡ 2 → AreRefused (map string_bytes words.items) ⊎ HasOptions (map string_bytes words.items) (λ options.
-        are_in_range options.stop options.limit options.workers ≡ false) }
+        are_in_range_within (limits_of (map string_bytes words.items)) options.stop options.limit options.workers ≡ false) }
     // `--top NAME` alone is not refused.
     ensures alone { (name : Text) → map string_bytes words.items ≡ codes "--top" ∷ name ∷ [] → starts_with_minus name ≡ false → result ≢ 2 }
     ensures limit { result ≡ 3 →
         HasRun (map string_bytes words.items) (R.remaining input.old) (λ text options.
-        HasDesign text options (λ design. IsCutShort design options)) }
+        HasDesignWithin (limits_of (map string_bytes words.items)) text options (λ design. IsCutShort design options)) }
     ensures quiet { 0 < result → result < 4 → Keeps (W.contents out.old) (W.contents out.new) }
     // Memory ran out, or reading or writing failed: nothing was written, or a proper prefix of the
     // listing or of the help.
     ensures stopped { result ≡ 4 → Keeps (W.contents out.old) (W.contents out.new)
         ⊎ (HasRun (map string_bytes words.items) (R.remaining input.old) (λ text options.
-        HasDesign text options (λ design. ListsPart design options (W.contents out.old) (W.contents out.new)))
+        HasDesignWithin (limits_of (map string_bytes words.items)) text options (λ design. ListsPart design options (W.contents out.old) (W.contents out.new)))
         ⊎ HasHelp (map string_bytes words.items) (λ help. AppendsPart (W.contents out.old) (W.contents out.new) help)) }
 {
-    let options = match read_options(alloc, words) {
-        Ok(options) => options,
+    let request = match read_request(alloc, words) {
+        Ok(request) => request,
         Err(fault) => return explain(&fault, out, err),
     };
-    match carry_out(rt, alloc, &options, hints, input, out) {
+    let settings = Settings {
+        limits: request.limits,
+        hints,
+    };
+    match carry_out(rt, alloc, &request.options, settings, input, out) {
         Ok(()) => 0,
         Err(failure) => {
             tell(err, failure);

@@ -1,32 +1,47 @@
 //! From the text of a design to its listing.
 ghost use Rattle.std.specs.Prelude.{◌≡◌, ◌≢◌, ◌↔◌, true, false, Err, OnOk, IfErr, IfSome, MatchResult};
 ghost use Rattle.std.specs.Io.KnownBytes.{Keeps};
-ghost use Rattle.sim_run_options.specs.Options.{are_in_range};
+ghost use Rattle.sim_run_options.specs.Options.{are_in_range, are_in_range_within};
 ghost use Rattle.sim_run_session.specs.Run.{Finishes, Lists, ListsPart, history_of};
-ghost use Rattle.sim_run_session.specs.Simulation.{IsDesignOf, HasDesign, IsOfText, IsRefusal};
+ghost use Rattle.sim_run_session.specs.Simulation.{IsDesignOf, IsDesignWithin, HasDesign, HasDesignWithin, IsOfText, IsRefusal, IsRefusalWithin};
 
 use crate::error::RunError;
 use crate::runs::{run_alone, run_by_team, write_run};
-use sim_flat::flatten;
+use crate::settings::Settings;
+use sim_flat::flatten_within;
 use sim_flat_design::Design;
-use sim_run_options::Options;
+use sim_run_options::{Limits, Options};
 use sim_run_team::Hints;
 use sim_store::WaveStore;
-use sim_text::parse;
+use sim_text::parse_within;
 use std::alloc::Global;
 use std::io::Write;
 use std::sync::Wait;
 use std::thread::Threads;
 
 /// Reads a text, and elaborates its design under the top of the options. It refuses with `Text` or
-/// `Flat`, as `simulate` does, in this order.
+/// `Flat`, as `simulate_within` does, in this order.
+pub fn elaborate_within(
+    alloc: Global,
+    source: &[u8],
+    options: &Options,
+    limits: Limits,
+) -> Result<Design, RunError>
+    ensures only { IfErr result IsOfText }
+    ensures value { MatchResult result (λ design. IsDesignWithin limits source.now options.now design)
+        (λ e. IsRefusalWithin limits source.now options.now e) }
+{
+    let file = parse_within(alloc, source, limits.bytes())?;
+    let design = flatten_within(alloc, &file, options.top.as_str(), limits.design())?;
+    Ok(design)
+}
+
+/// The same within the limits of a run that asks for no others.
 pub fn elaborate(alloc: Global, source: &[u8], options: &Options) -> Result<Design, RunError>
     ensures only { IfErr result IsOfText }
     ensures value { MatchResult result (λ design. IsDesignOf source.now options.now design) (λ e. IsRefusal source.now options.now e) }
 {
-    let file = parse(alloc, source)?;
-    let design = flatten(alloc, &file, options.top.as_str())?;
-    Ok(design)
+    elaborate_within(alloc, source, options, Limits::Standard)
 }
 
 /// The store of a text's finished run, carried out by a team of threads. `None` if the team fails
@@ -37,23 +52,29 @@ fn run_text_by_team<R: Threads + Wait + Sync>(
     alloc: Global,
     source: &[u8],
     options: &Options,
-    hints: Hints,
+    settings: Settings,
 ) -> Result<Option<WaveStore>, RunError>
-    requires { are_in_range options.now.stop options.now.limit options.now.workers ≡ true }
-    ensures { MatchResult result (λ found. IfSome found (λ run. HasDesign source.now options.now (λ design. Finishes design options.now (history_of run))))
-        (λ e. IsRefusal source.now options.now e) }
+    requires { are_in_range_within settings.limits options.now.stop options.now.limit options.now.workers ≡ true }
+    ensures { MatchResult result
+        (λ found. IfSome found (λ run. HasDesignWithin settings.limits source.now options.now (λ design. Finishes design options.now (history_of run))))
+        (λ e. IsRefusalWithin settings.limits source.now options.now e) }
 {
-    let design = elaborate(alloc, source, options)?;
-    run_by_team(rt, alloc, design, options, hints)
+    let design = elaborate_within(alloc, source, options, settings.limits)?;
+    run_by_team(rt, alloc, design, options, settings.hints)
 }
 
 /// The store of a text's finished run, carried out on the calling thread.
-fn run_text_alone(alloc: Global, source: &[u8], options: &Options) -> Result<WaveStore, RunError>
-    requires { are_in_range options.now.stop options.now.limit options.now.workers ≡ true }
-    ensures { MatchResult result (λ run. HasDesign source.now options.now (λ design. Finishes design options.now (history_of run)))
-        (λ e. IsRefusal source.now options.now e) }
+fn run_text_alone(
+    alloc: Global,
+    source: &[u8],
+    options: &Options,
+    settings: Settings,
+) -> Result<WaveStore, RunError>
+    requires { are_in_range_within settings.limits options.now.stop options.now.limit options.now.workers ≡ true }
+    ensures { MatchResult result (λ run. HasDesignWithin settings.limits source.now options.now (λ design. Finishes design options.now (history_of run)))
+        (λ e. IsRefusalWithin settings.limits source.now options.now e) }
 {
-    let design = elaborate(alloc, source, options)?;
+    let design = elaborate_within(alloc, source, options, settings.limits)?;
     run_alone(alloc, design, options)
 }
 
@@ -64,19 +85,19 @@ fn run_text<R: Threads + Wait + Sync>(
     alloc: Global,
     source: &[u8],
     options: &Options,
-    hints: Hints,
+    settings: Settings,
 ) -> Result<WaveStore, RunError>
-    requires { are_in_range options.now.stop options.now.limit options.now.workers ≡ true }
-    ensures { MatchResult result (λ run. HasDesign source.now options.now (λ design. Finishes design options.now (history_of run)))
-        (λ e. IsRefusal source.now options.now e) }
+    requires { are_in_range_within settings.limits options.now.stop options.now.limit options.now.workers ≡ true }
+    ensures { MatchResult result (λ run. HasDesignWithin settings.limits source.now options.now (λ design. Finishes design options.now (history_of run)))
+        (λ e. IsRefusalWithin settings.limits source.now options.now e) }
 {
     if options.workers > 1 {
-        let found = run_text_by_team(rt, alloc, source, options, hints)?;
+        let found = run_text_by_team(rt, alloc, source, options, settings)?;
         if let Some(run) = found {
             return Ok(run);
         }
     }
-    run_text_alone(alloc, source, options)
+    run_text_alone(alloc, source, options, settings)
 }
 
 /// Simulates the design in a text, and writes its listing. The refusals, in the order of the
@@ -103,31 +124,35 @@ pub fn simulate<R: Threads + Wait + Sync, W: Write>(
     ensures refused { IfErr result (λ e. e ≢ RunError.Write → IsRefusal source.now options.now e) }
     ensures quiet { IfErr result (λ e. e ≢ RunError.Write → Keeps (W.contents out.old) (W.contents out.new)) }
 {
-    simulate_with_hints(rt, alloc, source, options, Hints::measured(), out)
+    let settings = Settings {
+        limits: Limits::Standard,
+        hints: Hints::measured(),
+    };
+    simulate_within(rt, alloc, source, options, settings, out)
 }
 
-/// The same, with the caller's hints on when to hand out work to other threads. No answer depends
-/// on them.
-pub fn simulate_with_hints<R: Threads + Wait + Sync, W: Write>(
+/// The same within the limits of the settings: `Options`, `Text` and `Flat` follow them.
+pub fn simulate_within<R: Threads + Wait + Sync, W: Write>(
     rt: &R,
     alloc: Global,
     source: &[u8],
     options: &Options,
-    hints: Hints,
+    settings: Settings,
     out: &mut W,
 ) -> Result<(), RunError>
-    ensures options { (result ≡ Err RunError.Options) ↔ (are_in_range options.now.stop options.now.limit options.now.workers ≡ false) }
-    ensures listed { OnOk result (HasDesign source.now options.now (λ design. Lists design options.now (W.contents out.old) (W.contents out.new))) }
+    ensures options { (result ≡ Err RunError.Options) ↔ (are_in_range_within settings.limits options.now.stop options.now.limit options.now.workers ≡ false) }
+    ensures listed { OnOk result (HasDesignWithin settings.limits source.now options.now (λ design.
+        Lists design options.now (W.contents out.old) (W.contents out.new))) }
     // If a write failed, the run is finished, and a proper prefix of its listing was written.
-    ensures part { result ≡ Err RunError.Write → HasDesign source.now options.now (λ design.
+    ensures part { result ≡ Err RunError.Write → HasDesignWithin settings.limits source.now options.now (λ design.
         ListsPart design options.now (W.contents out.old) (W.contents out.new)) }
     // Every other refusal has its reason, and nothing was written.
-    ensures refused { IfErr result (λ e. e ≢ RunError.Write → IsRefusal source.now options.now e) }
+    ensures refused { IfErr result (λ e. e ≢ RunError.Write → IsRefusalWithin settings.limits source.now options.now e) }
     ensures quiet { IfErr result (λ e. e ≢ RunError.Write → Keeps (W.contents out.old) (W.contents out.new)) }
 {
-    if !options.are_in_range() {
+    if !options.are_in_range_within(settings.limits) {
         return Err(RunError::Options);
     }
-    let run = run_text(rt, alloc, source, options, hints)?;
+    let run = run_text(rt, alloc, source, options, settings)?;
     write_run(alloc, &run, out)
 }

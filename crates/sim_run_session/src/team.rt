@@ -88,7 +88,7 @@ fn execute_in_shares<D: DesignType, R: Wait>(
     }
 }
 
-/// Executes all processes that are due, by the team if at least so many of them have something to
+/// Executes all processes that are due, by the team if at least `least` of them have something to
 /// do. `None` if the team fails or memory runs out.
 fn execute<D: DesignType, R: Wait>(
     rt: &R,
@@ -146,7 +146,7 @@ fn lead<D: DesignType, R: Wait>(
     None
 }
 
-/// Carries on a run until it has ended, with the workers at so many posts, the first ones; `None` if
+/// Carries on a run until it has ended, with the workers at the first `hired` posts; `None` if
 /// the team fails.
 fn lead_hired<D: DesignType, R: Wait>(
     rt: &R,
@@ -208,7 +208,7 @@ fn run_at<D: DesignType + Send + Sync, R: Threads + Wait + Sync>(
     )
 }
 
-/// The same by up to so many workers, of which this thread is one.
+/// The same by at most `workers` threads, of which this is one.
 fn run_by<D: DesignType + Send + Sync, R: Threads + Wait + Sync>(
     rt: &R,
     alloc: Global,

@@ -14,7 +14,7 @@ use crate::runs::tell_run;
 use anyhow::{Context, Result};
 use sim_flat::FlatError;
 use sim_flat_design::Design;
-use sim_run_session::{RunError, elaborate};
+use sim_run_session::{RunError, elaborate_within};
 use sim_text::TextError;
 use std::alloc::Global;
 use std::io::{self, BufWriter, Write, writer};
@@ -70,7 +70,7 @@ fn answer_text<L: Write, W: Write>(
     listing: &mut L,
     words: &mut W,
 ) -> Result<u8> {
-    match elaborate(alloc, source.text, &request.options) {
+    match elaborate_within(alloc, source.text, &request.options, request.limits) {
         Ok(design) => answer_design(alloc, source, design, request, listing, words),
         Err(refusal) => {
             write_refusals(alloc, words, source, request, refusal)?;
@@ -86,12 +86,14 @@ fn answer_request<L: Write, W: Write>(
     listing: &mut L,
     words: &mut W,
 ) -> Result<u8> {
-    if !request.options.are_in_range() {
+    if !request.options.are_in_range_within(request.limits) {
         write_options(rt.alloc(), words, request)?;
         return Ok(2);
     }
     let (mut text, mut parts) = (Vec::new(rt.alloc()), Vec::new(rt.alloc()));
-    read_source(rt, request.files.as_slice(), &mut text, &mut parts)?;
+    // One byte more than a text may have is enough to see that it is too long.
+    let most = request.limits.bytes() as u64 + 1;
+    read_source(rt, request.files.as_slice(), most, &mut text, &mut parts)?;
     let source = Source {
         text: text.as_slice(),
         parts: parts.as_slice(),

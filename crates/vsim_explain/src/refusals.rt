@@ -1,7 +1,7 @@
 //! The explanation of a refusal, for people or for tools.
 
 use sim_flat::FlatError;
-use sim_run_session::{RunError, elaborate};
+use sim_run_session::{RunError, elaborate_within};
 use std::alloc::Global;
 use std::io::{self, Write};
 use vsim_explain_names::{write_more_of_design, write_more_of_text};
@@ -97,7 +97,7 @@ fn next_fault(
     if !take_out(text, at) {
         return None;
     }
-    match elaborate(alloc, text.as_slice(), &request.options) {
+    match elaborate_within(alloc, text.as_slice(), &request.options, request.limits) {
         Err(RunError::Flat(FlatError::Memory)) => None,
         Err(RunError::Flat(next)) => Some(next),
         _ => None,
@@ -145,7 +145,7 @@ pub fn write_refusals<W: Write>(
 /// Writes the line of JSON of options that are out of range.
 fn write_options_line<W: Write>(alloc: Global, out: &mut W, request: &Request) -> io::Result<()> {
     let mut advice = Vec::new(alloc);
-    write_ranges(&mut advice, &request.options)?;
+    write_ranges(&mut advice, &request.options, request.limits)?;
     vsim_explain_json::write_refusal(alloc, out, None, &RunError::Options, advice.as_slice())
 }
 
@@ -156,5 +156,5 @@ pub fn write_options<W: Write>(alloc: Global, out: &mut W, request: &Request) ->
     }
     let refusal = RunError::Options;
     writeln!(out, "error: {refusal}")?;
-    write_ranges(out, &request.options)
+    write_ranges(out, &request.options, request.limits)
 }

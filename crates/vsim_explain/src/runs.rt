@@ -8,7 +8,7 @@ use sim_logic::Logic;
 use sim_run_options::Options;
 use sim_run_session::write_run;
 use sim_store::{Entry, Look, Step, WaveStore};
-use sim_text::parse;
+use sim_text::parse_within;
 use std::alloc::Global;
 use std::io::{self, Write};
 use vsim_explain_findings::{Form, Outcome, write_findings};
@@ -134,7 +134,7 @@ fn write_doubts<W: Write>(
     request: &Request,
     store: &WaveStore,
 ) -> Result<()> {
-    let Ok(file) = parse(alloc, source.text) else {
+    let Ok(file) = parse_within(alloc, source.text, source.text.len()) else {
         bail!("out of memory");
     };
     let outcome = Outcome {

@@ -5,7 +5,7 @@ use crate::nearest::{meant, nearest};
 use crate::ports::{has_instance, write_missing, write_unknown};
 use crate::words::{OTHER_WORDS, WORDS};
 use sim_flat::FlatError;
-use sim_text::{TextError, parse};
+use sim_text::{TextError, parse_within};
 use sim_text_tree::DesignFile;
 use sim_text_tree::unit::LibraryUnit;
 use std::alloc::{AllocError, Global};
@@ -59,7 +59,7 @@ pub fn write_more_of_design<W: Write>(
     top: &str,
     fault: FlatError,
 ) -> io::Result<()> {
-    let Ok(file) = parse(alloc, source) else {
+    let Ok(file) = parse_within(alloc, source, source.len()) else {
         return Ok(());
     };
     match fault {

@@ -109,7 +109,8 @@ const TOO_MANY_ELEMENTS: &str = "\
 
 const TOO_MANY: &str = "\
     The design of this top has more than 65,536 nets, processes or drivers, more than 16,384\n\
-    instances, or more than 32 levels of instances. Leave part of it out.\n\
+    instances, or more than 32 levels of instances. Leave part of it out. With --large it may\n\
+    have 1,000,000 nets, processes, drivers and instances.\n\
     See Limits in docs/REFERENCE.md.";
 
 /// The explanation of a limit exceeded at this place: the name of the top, or an element.

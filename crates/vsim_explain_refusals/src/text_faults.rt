@@ -10,6 +10,7 @@ const MEMORY: &str = "\
 
 const TOO_LONG: &str = "\
     A text may have at most 1,048,576 bytes. Leave out units that the top does not need.\n\
+    With --large it may have 268,435,456.\n\
     See Limits in docs/REFERENCE.md.";
 
 const BAD_BYTE: &str = "\

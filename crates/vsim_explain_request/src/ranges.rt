@@ -1,7 +1,7 @@
 //! Options out of range.
 
 use sim_logic::LATEST;
-use sim_run_options::Options;
+use sim_run_options::{Limits, Options};
 use std::io::{self, Write};
 
 /// Writes a line for a stop time that is too late.
@@ -16,13 +16,14 @@ fn write_stop<W: Write>(out: &mut W, stop: u64) -> io::Result<()> {
 }
 
 /// Writes a line for a limit that is out of range.
-fn write_limit<W: Write>(out: &mut W, limit: u32) -> io::Result<()> {
-    if (1..=1_000_000).contains(&limit) {
+fn write_limit<W: Write>(out: &mut W, limit: u32, limits: Limits) -> io::Result<()> {
+    let most = limits.cycles();
+    if (1..=most).contains(&limit) {
         return Ok(());
     }
     writeln!(
         out,
-        "--limit is {limit}, but must be from 1 to 1000000 cycles."
+        "--limit is {limit}, but must be from 1 to {most} cycles."
     )
 }
 
@@ -38,8 +39,8 @@ fn write_workers<W: Write>(out: &mut W, workers: usize) -> io::Result<()> {
 }
 
 /// Writes a line for each option that is out of range.
-pub fn write_ranges<W: Write>(out: &mut W, options: &Options) -> io::Result<()> {
+pub fn write_ranges<W: Write>(out: &mut W, options: &Options, limits: Limits) -> io::Result<()> {
     write_stop(out, options.stop)?;
-    write_limit(out, options.limit)?;
+    write_limit(out, options.limit, limits)?;
     write_workers(out, options.workers)
 }

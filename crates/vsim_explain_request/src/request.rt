@@ -1,6 +1,6 @@
 //! The words of the command line.
 
-use sim_run_options::{CliFault, Options, read_options};
+use sim_run_options::{CliFault, Limits, Options};
 use std::alloc::{AllocError, Global};
 
 /// The request that the words of the command line make.
@@ -8,6 +8,8 @@ use std::alloc::{AllocError, Global};
 pub struct Request {
     /// The options of `vsim`.
     pub options: Options,
+    /// How large the run may be.
+    pub limits: Limits,
     /// Whether the listing is wanted as well.
     pub listing: bool,
     /// Whether the text and its design are to be checked, without a run.
@@ -117,9 +119,10 @@ fn request_of(alloc: Global, words: Words) -> Result<Request, CliFault> {
         is_json,
         is_value: _,
     } = words;
-    let options = read_options(alloc, of_vsim)?;
+    let asked = sim_run_options::read_request(alloc, of_vsim)?;
     Ok(Request {
-        options,
+        options: asked.options,
+        limits: asked.limits,
         listing,
         is_check,
         is_json,

@@ -1,6 +1,7 @@
 use Rattle.std.proofs.Common.{◌≡◌, ◌∙◌, ap, ap₂, codes, true}
 use Rattle.std.proofs.lemmas.Result.{IfOk-weaker}
 use Rattle.clap.specs.Simple.{App, app_of, app_of_fields, new_app, on_top, with_rule}
+use Rattle.sim_run_options.specs.Asks.{limit_rule, stop_rule, workers_rule}
 use Rattle.sim_run_options.proofs.command.command_line.Goals as goal
 
 abbrev nameless : App → App
@@ -10,7 +11,6 @@ pub returns : goal.returns
 returns c =
     let start : app_of c.no_binary_name.result ≡ nameless (new_app (codes "vsim")) = ap app_of_fields c.no_binary_name.ensures
     ∙ ap nameless (ap app_of_fields c.after_help.ensures ∙ (ap app_of_fields c.about.ensures ∙ c.new.ensures.app)) in
-    let one = c.in_ok-arg.ensures.shape c.top_argument.ensures.local ∙ ap₂ with_rule start c.top_argument.ensures.rule in
-    let two = c.in_ok-arg-2.ensures.shape c.stop_argument.ensures.local ∙ ap₂ with_rule one c.stop_argument.ensures.rule in
-    let three = c.in_ok-arg-3.ensures.shape c.limit_argument.ensures.local ∙ ap₂ with_rule two c.limit_argument.ensures.rule in
-    IfOk-weaker c.arg-4.result _ _ (λ r h. h.shape c.workers_argument.ensures.local ∙ ap₂ with_rule three c.workers_argument.ensures.rule) c.arg-4.ensures
+    let top = c.in_ok-command.ensures.shape c.top_argument.ensures.local ∙ ap₂ with_rule start c.top_argument.ensures.rule in
+    let numbers = c.in_ok-with_numbers.ensures ∙ ap (λ (a : App). with_rule (with_rule (with_rule a stop_rule) limit_rule) workers_rule) top in
+    IfOk-weaker c.arg-2.result _ _ (λ r h. h.shape c.large_argument.ensures.local ∙ ap₂ with_rule numbers c.large_argument.ensures.rule) c.arg-2.ensures

@@ -1,5 +1,5 @@
 use Rattle.std.proofs.Common.{rules}
-use Rattle.sim_run_session.proofs.simulation.elaborate.Goals as goal
+use Rattle.sim_run_session.proofs.simulation.elaborate_within.Goals as goal
 
 pub returns-in_err-file-clause-only : goal.returns-in_err-file-clause-only
 returns-in_err-file-clause-only c = search rules
