@@ -362,6 +362,12 @@ RUNS = [
         "error: Options\n--limit is 0, but must be from 1 to 1000000 cycles.\n--workers is 17, but must be from 1 to 16 threads.\n",
     ),
     (
+        "--top t --limit 0 --large",
+        CLOCK,
+        2,
+        "error: Options\n--limit is 0, but must be from 1 to 4294967295 cycles.\n",
+    ),
+    (
         "--top t --stop 4611686018427387904",
         CLOCK,
         2,

@@ -1,23 +1,32 @@
 //! Command lines: the right words are accepted, with these values; the texts of refusals and of the
 //! help, which no contract says.
 
-use sim_run_options::{CliFault, Options, read_options};
+use sim_run_options::{CliFault, Limits, Request, read_options, read_request};
 use std::alloc::{AllocError, Global};
 use std::test::Fail;
 
-/// A line of words; the top, the stop time, the limit and the number of workers that it gives; and
-/// whether these are in range.
-type Row<'a> = (&'a str, &'a str, u64, u32, usize, bool);
+/// A line of words; the top, the stop time, the limit and the number of workers that it gives;
+/// whether it asks for a large run, and whether the others are in its ranges.
+type Row<'a> = (&'a str, &'a str, u64, u32, usize, bool, bool);
 
 /// Lines that are accepted.
-static TAKEN: [Row<'_>; 5] = [
-    ("--top t", "t", 4_611_686_018_427_387_903, 10_000, 1, true),
+static TAKEN: [Row<'_>; 9] = [
+    (
+        "--top t",
+        "t",
+        4_611_686_018_427_387_903,
+        10_000,
+        1,
+        false,
+        true,
+    ),
     (
         "--top t --stop 12000000 --limit 2 --workers 16",
         "t",
         12_000_000,
         2,
         16,
+        false,
         true,
     ),
     (
@@ -26,9 +35,18 @@ static TAKEN: [Row<'_>; 5] = [
         4_611_686_018_427_387_903,
         7,
         1,
+        false,
         true,
     ),
-    ("--top=", "", 4_611_686_018_427_387_903, 10_000, 1, true),
+    (
+        "--top=",
+        "",
+        4_611_686_018_427_387_903,
+        10_000,
+        1,
+        false,
+        true,
+    ),
     (
         "--top t --stop 18446744073709551615 --limit 0 --workers 17",
         "t",
@@ -36,11 +54,48 @@ static TAKEN: [Row<'_>; 5] = [
         0,
         17,
         false,
+        false,
+    ),
+    (
+        "--top t --limit 1000001",
+        "t",
+        4_611_686_018_427_387_903,
+        1_000_001,
+        1,
+        false,
+        false,
+    ),
+    (
+        "--large --top t",
+        "t",
+        4_611_686_018_427_387_903,
+        4_294_967_295,
+        1,
+        true,
+        true,
+    ),
+    (
+        "--top t --limit 1000001 --large",
+        "t",
+        4_611_686_018_427_387_903,
+        1_000_001,
+        1,
+        true,
+        true,
+    ),
+    (
+        "--top t --limit 0 --large",
+        "t",
+        4_611_686_018_427_387_903,
+        0,
+        1,
+        true,
+        false,
     ),
 ];
 
 /// Lines that are refused, and parts of the refusal.
-static REFUSED: [(&str, &[&str]); 13] = [
+static REFUSED: [(&str, &[&str]); 15] = [
     ("", &[]),
     ("t", &[]),
     ("--top", &[]),
@@ -57,42 +112,51 @@ static REFUSED: [(&str, &[&str]); 13] = [
     ("--top -t", &[]),
     ("--top t --version", &[]),
     ("--stop 5", &[]),
+    ("--top t --large --large", &[]),
+    ("--top t --large=true", &[]),
 ];
 
 /// Lines that ask for the help.
 static HELP: [&str; 3] = ["--help", "-h", "--top t --help"];
 
 /// Parts of the help.
-static PARTS: [&str; 8] = [
+static PARTS: [&str; 9] = [
     "Usage: vsim [OPTIONS] --top <NAME>\n",
     "--stop <FS>",
     "--limit <N>",
     "--workers <N>",
+    "--large",
     "TIME DELTA NAME VALUE",
     "done CYCLES EVENTS",
     "3  the run needs more simulation cycles than the limit",
     "vsim --top t < pulse.vhd",
 ];
 
-/// The options or the fault of a line of words.
-fn read(alloc: Global, line: &str) -> Result<Result<Options, CliFault>, AllocError> {
+/// The words of a line.
+fn words(alloc: Global, line: &str) -> Result<Vec<String>, AllocError> {
     let mut words = Vec::new(alloc);
     for word in line.split_ascii_whitespace() {
         words.push(String::from_str(alloc, word)?)?;
     }
-    Ok(read_options(alloc, words))
+    Ok(words)
+}
+
+/// The run or the fault of a line of words.
+fn read(alloc: Global, line: &str) -> Result<Result<Request, CliFault>, AllocError> {
+    Ok(read_request(alloc, words(alloc, line)?))
 }
 
 /// Whether the line of a row is accepted, with its values.
 fn is_taken(alloc: Global, row: &Row<'_>) -> Result<bool, AllocError> {
-    let (line, top, stop, limit, workers, in_range) = *row;
+    let (line, top, stop, limit, workers, is_large, in_range) = *row;
     match read(alloc, line)? {
-        Ok(options) => Ok(
+        Ok(Request { options, limits }) => Ok(
             options.top.as_str() == top
                 && options.stop == stop
                 && options.limit == limit
                 && options.workers == workers
-                && options.are_in_range() == in_range,
+                && matches!(limits, Limits::Large) == is_large
+                && options.are_in_range_within(limits) == in_range,
         ),
         Err(_) => Ok(false),
     }
@@ -129,6 +193,17 @@ fn valid_words_are_accepted(rt: HostRuntime) -> Result<(), Fail> {
     for row in &TAKEN {
         assert!(rt; is_taken(rt.alloc(), row)?, "{}", row.0);
     }
+    Ok(())
+}
+
+#[test]
+fn options_alone_are_those_of_the_run(rt: HostRuntime) -> Result<(), Fail> {
+    let words = words(rt.alloc(), "--large --top t")?;
+    let is_right = match read_options(rt.alloc(), words) {
+        Ok(options) => options.limit == u32::MAX && !options.are_in_range(),
+        Err(_) => false,
+    };
+    assert!(rt; is_right);
     Ok(())
 }
 
