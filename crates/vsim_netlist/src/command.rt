@@ -44,6 +44,8 @@ pub(crate) struct Options<'a> {
     scope: &'a str,
     /// The Liberty files.
     pub(crate) liberty: &'a [&'a str],
+    sdf: &'a str,
+    pub(crate) corner: &'a str,
     pub(crate) delays: &'a str,
     pub(crate) hold: &'a str,
     map: &'a str,
@@ -79,6 +81,11 @@ impl<'a> Options<'a> {
         given(self.scope)
     }
 
+    /// The file of the delays.
+    pub(crate) fn sdf(&self) -> Option<&'a str> {
+        given(self.sdf)
+    }
+
     /// The file of the map.
     pub(crate) fn map(&self) -> Option<&'a str> {
         given(self.map)
@@ -86,7 +93,7 @@ impl<'a> Options<'a> {
 
     /// Whether delays or a hold time are given.
     pub(crate) fn is_timed(&self) -> bool {
-        !self.delays.is_empty() || !self.hold.is_empty()
+        !self.delays.is_empty() || !self.hold.is_empty() || !self.sdf.is_empty()
     }
 }
 
@@ -135,11 +142,20 @@ fn with_liberty<'a>(alloc: Global, command: Command<'a>) -> Result<Command<'a>, 
     )
 }
 
+/// Adds the options about the cells of libraries.
+fn with_libraries<'a>(alloc: Global, command: Command<'a>) -> Result<Command<'a>, AllocError> {
+    let command = with_liberty(alloc, command)?;
+    let help = "The delays of the libraries' cells";
+    let command = with_valued(alloc, command, "sdf", "FILE", help)?;
+    let help = "Which delays: min, typ (the default) or max";
+    with_valued(alloc, command, "corner", "CORNER", help)
+}
+
 /// Adds the options about what to simulate.
 fn with_design<'a>(alloc: Global, command: Command<'a>) -> Result<Command<'a>, AllocError> {
     let help = "The module, if not the one that is marked as the top";
     let command = with_valued(alloc, command, "top", "NAME", help)?;
-    let command = with_liberty(alloc, command)?;
+    let command = with_libraries(alloc, command)?;
     let help = "How the inputs change: a VCD, or lines";
     let command = with_valued(alloc, command, "stimuli", "FILE", help)?;
     let help = "The scope of the VCD, else the deepest that fits";
@@ -190,6 +206,8 @@ pub(crate) fn make_options<'a>(matches: &'a ArgMatches<'_>) -> Options<'a> {
         stimuli: value(matches, "stimuli"),
         scope: value(matches, "scope"),
         liberty: values(matches, "liberty"),
+        sdf: value(matches, "sdf"),
+        corner: value(matches, "corner"),
         delays: value(matches, "delays"),
         hold: value(matches, "hold"),
         map: value(matches, "map"),

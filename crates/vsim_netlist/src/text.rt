@@ -25,16 +25,19 @@ pub(crate) struct Request<'a> {
     pub(crate) delays: &'a [NamedDelay],
     /// The hold time of inputs other than clocks, in femtoseconds.
     pub(crate) hold: u64,
+    /// Whether cells have the delays of their paths.
+    pub(crate) has_paths: bool,
 }
 
-/// A text, the name of its entity, its map, a note about what nothing drives, and the number of
-/// clocks that gates or registers drive.
+/// A text, the name of its entity, its map, notes about what nothing drives and about delays without
+/// effect, and the number of clocks that gates or registers drive.
 #[derive(Drop)]
 pub(crate) struct Written {
     pub(crate) text: String,
     pub(crate) entity: String,
     pub(crate) map: String,
     pub(crate) undriven: String,
+    pub(crate) passed: String,
     pub(crate) derived_clocks: usize,
 }
 
@@ -143,6 +146,7 @@ fn finished(
         entity,
         map,
         undriven,
+        passed: String::new(statements.alloc),
         derived_clocks,
     })
 }
@@ -174,6 +178,15 @@ fn named_levels(alloc: Global, request: &Request<'_>) -> Result<Vec<Level>, Allo
     }
 }
 
+/// Makes nets unknown at first, unless the source says what they are.
+fn begin_unknown(signals: &mut Signals, netlist: &Netlist) {
+    for (place, net) in netlist.nets.iter().enumerate() {
+        if net.initial.is_none() {
+            signals.begin(place, Level::Unknown);
+        }
+    }
+}
+
 /// The signals of the netlist, with names for those that need one.
 fn signals(
     alloc: Global,
@@ -184,7 +197,11 @@ fn signals(
     let levels = named_levels(alloc, request)?;
     let wanted = wanted_nets(alloc, uses, within)?;
     let (levels, wanted) = (levels.as_slice(), wanted.as_slice());
-    Ok(make_signals(alloc, request.netlist, levels, wanted))
+    let mut signals = make_signals(alloc, request.netlist, levels, wanted);
+    if request.has_paths {
+        begin_unknown(&mut signals, request.netlist);
+    }
+    Ok(signals)
 }
 
 /// The statements of the cells, which name those signals that need a name.
@@ -229,7 +246,8 @@ fn write_with(
     uses: &Uses,
     clocks: &Clocks,
 ) -> Result<Written, Fault> {
-    let within = all_within(alloc, request.netlist, uses, !request.delays.is_empty())?;
+    let has_delays = request.has_paths || !request.delays.is_empty();
+    let within = all_within(alloc, request.netlist, uses, has_delays)?;
     let mut statements = cell_statements(alloc, request, uses, within.as_slice())?;
     finish(&mut statements, request, uses, clocks)
 }

@@ -8,5 +8,6 @@ mod modules;
 mod nets;
 mod object;
 mod registers;
+mod timings;
 
 pub use modules::read_netlist;

@@ -1,11 +1,14 @@
 //! The cells of a library, as gates and registers.
 
 use crate::document::{WrittenBit, WrittenCell};
+use crate::kinds::Site;
 use crate::nets::Nets;
+use crate::timings::{Connected, Timed};
 use std::alloc::{AllocError, Global};
 use vsim_netlist_design::{
     Bit, Cell, Conflict, Control, Fault, Function, Gate, GateCell, Level, LibraryCell,
-    LibraryEntry, LibraryPin, LibraryState, Register, Source, Step, Style, Variant, push,
+    LibraryEntry, LibraryPin, LibraryState, PathDelay, Register, Source, Step, Style, Timing,
+    Variant, push,
 };
 
 /// A cell that is being made: the bits of its pins and the nets of its register's variables, as far
@@ -17,7 +20,39 @@ struct Making<'a> {
     bits: Vec<Option<Bit>>,
     plain: Option<usize>,
     negated: Option<usize>,
-    cells: Vec<Cell>,
+    timed: Option<&'a Timed<'a>>,
+    parts: Parts,
+}
+
+/// The gates and registers that make up a cell, each with its delays if a file has them.
+#[derive(Drop)]
+pub(crate) struct Parts {
+    pub(crate) cells: Vec<Cell>,
+    pub(crate) timings: Vec<Option<Timing>>,
+}
+
+impl Parts {
+    /// Nothing.
+    pub(crate) fn new(alloc: Global) -> Parts {
+        Parts {
+            cells: Vec::new(alloc),
+            timings: Vec::new(alloc),
+        }
+    }
+
+    /// Adds a gate or a register.
+    pub(crate) fn put(&mut self, cell: Cell, timing: Option<Timing>) -> Result<(), AllocError> {
+        push(&mut self.cells, cell)?;
+        push(&mut self.timings, timing)
+    }
+
+    /// Sets the delays of the last one.
+    fn time_last(&mut self, timing: Timing) {
+        let place = self.timings.len().saturating_sub(1);
+        if let Some(last) = self.timings.get_mut(place) {
+            *last = Some(timing);
+        }
+    }
 }
 
 /// The refusal of a pin, after its name.
@@ -106,6 +141,20 @@ fn conflict_of(state: &LibraryState, variant: Variant) -> Conflict {
     }
 }
 
+/// Whether a function, if there is one, is an input or its negation.
+fn is_plain(function: &Option<Function>) -> bool {
+    match function {
+        Some(function) => function.steps.len() <= 2 && function.inputs.len() <= 1,
+        None => true,
+    }
+}
+
+/// Whether what controls a register are inputs or their negations, as are the data of a latch.
+fn has_plain_controls(state: &LibraryState) -> bool {
+    let is_data_plain = !state.is_latch || is_plain(&state.data);
+    is_data_plain && is_plain(&state.clock) && is_plain(&state.clear) && is_plain(&state.preset)
+}
+
 /// The style of a register, by what it has.
 fn style_of(state: &LibraryState) -> Style {
     match (state.clear.is_some(), state.preset.is_some()) {
@@ -163,7 +212,58 @@ impl Making<'_> {
 
     /// Adds a gate or a register.
     fn put(&mut self, cell: Cell) -> Result<(), Fault> {
-        Ok(push(&mut self.cells, cell)?)
+        Ok(self.parts.put(cell, None)?)
+    }
+
+    /// Gives the last gate or register the delays of the paths to an output, if a file has them.
+    fn time(&mut self, output: &str) -> Result<(), Fault> {
+        let Some(timed) = self.timed else {
+            return Ok(());
+        };
+        let (model, bits) = (self.model, self.bits.as_slice());
+        let timing = timed.timing(Connected { model, bits }, output)?;
+        self.parts.time_last(timing);
+        Ok(())
+    }
+
+    /// The output that is a variable itself, if it is connected.
+    fn own_output(&self, variant: Variant) -> Option<&LibraryPin> {
+        let model = self.model;
+        for (place, pin) in model.pins.iter().enumerate() {
+            if self.drives(place, pin) && is_variable(pin, variant) {
+                return Some(pin);
+            }
+        }
+        None
+    }
+
+    /// Gives a register the delays of the paths to its output, if a file has them.
+    fn time_register(&mut self, state: &LibraryState, variant: Variant) -> Result<(), Fault> {
+        if self.timed.is_none() {
+            return Ok(());
+        }
+        let told = "a register whose output or control is a formula is not supported with --sdf";
+        let name = match self.own_output(variant) {
+            Some(pin) if has_plain_controls(state) => pin.name.clone()?,
+            _ => return Err(Fault::of(self.alloc, &[told])),
+        };
+        self.time(name.as_str())
+    }
+
+    /// Gives a gate the delays of the paths to its output, if a file has them and it has inputs.
+    fn time_gate(&mut self, function: &Function, output: &str) -> Result<(), Fault> {
+        if function.inputs.is_empty() || self.timed.is_none() {
+            return Ok(());
+        }
+        if reads(function, Variant::Plain) || reads(function, Variant::Negated) {
+            let told = [
+                "its output ",
+                output,
+                " is a formula of its register, which is not supported with --sdf",
+            ];
+            return Err(Fault::of(self.alloc, told.as_slice()));
+        }
+        self.time(output)
     }
 
     /// Adds a gate.
@@ -286,7 +386,8 @@ impl Making<'_> {
         let mut register = Register::new(style_of(state), output);
         self.fill_data(nets, state, variant, &mut register)?;
         self.fill_levels(nets, state, variant, &mut register)?;
-        self.put(Cell::Register(register))
+        self.put(Cell::Register(register))?;
+        self.time_register(state, variant)
     }
 
     /// Whether a pin is an output that is connected.
@@ -453,8 +554,14 @@ impl Making<'_> {
                 Err(fault_of_pin(self.alloc, name, " has no function in its Liberty file"))
             }
             (Some(_), None) if self.is_register(pin, output) => Ok(()),
-            (Some(function), None) => self.put_gate(function, false, output, false),
-            (Some(function), Some(enable)) => self.put_tristate(nets, function, enable, output),
+            (Some(function), None) => {
+                self.put_gate(function, false, output, false)?;
+                self.time_gate(function, pin.name.as_str())
+            }
+            (Some(function), Some(enable)) => {
+                self.put_tristate(nets, function, enable, output)?;
+                self.time_gate(function, pin.name.as_str())
+            }
         }
     }
 
@@ -559,13 +666,96 @@ fn connections(
     Ok(bits)
 }
 
-/// The gates and registers that make up a cell of this kind.
+/// A buffer inside of a cell, from one net to another.
+pub(crate) fn buffer(alloc: Global, from: usize, to: usize) -> Result<Cell, AllocError> {
+    let mut inputs = Vec::new(alloc);
+    push(&mut inputs, Bit::Net(from))?;
+    Ok(Cell::Gate(GateCell {
+        gate: Gate::Buf,
+        inputs,
+        output: to,
+        table: None,
+        steps: Vec::new(alloc),
+        is_inner: true,
+        is_low: false,
+    }))
+}
+
+/// The delays of a wire.
+fn timing_of(alloc: Global, path: PathDelay) -> Result<Timing, AllocError> {
+    let mut paths = Vec::new(alloc);
+    push(&mut paths, path)?;
+    Ok(Timing {
+        paths,
+        conditions: Vec::new(alloc),
+    })
+}
+
+impl Making<'_> {
+    /// Adds a wire that takes time, and returns the net at its end.
+    fn put_wire(&mut self, nets: &mut Nets, path: PathDelay) -> Result<usize, AllocError> {
+        let end = nets.add()?;
+        self.put_buffer(path, end)?;
+        Ok(end)
+    }
+
+    /// Adds a buffer with the delay of a wire.
+    fn put_buffer(&mut self, path: PathDelay, end: usize) -> Result<(), AllocError> {
+        let timing = timing_of(self.alloc, path)?;
+        let buffer = buffer(self.alloc, path.from, end)?;
+        self.parts.put(buffer, Some(timing))
+    }
+
+    /// Puts the wire to the pin at a place before it, if it takes time.
+    fn lengthen(
+        &mut self,
+        nets: &mut Nets,
+        timed: &Timed<'_>,
+        place: usize,
+        pin: &LibraryPin,
+    ) -> Result<(), AllocError> {
+        let from = match self.bits.get(place) {
+            Some(Some(Bit::Net(net))) if !pin.is_output => *net,
+            _ => return Ok(()),
+        };
+        let Some(path) = timed.wire(pin.name.as_str(), from) else {
+            return Ok(());
+        };
+        let end = self.put_wire(nets, path)?;
+        if let Some(bit) = self.bits.get_mut(place) {
+            *bit = Some(Bit::Net(end));
+        }
+        Ok(())
+    }
+
+    /// Puts wires before the inputs, if a file says that they take time.
+    fn put_wires(&mut self, nets: &mut Nets) -> Result<(), AllocError> {
+        let Some(timed) = self.timed else {
+            return Ok(());
+        };
+        let model = self.model;
+        for (place, pin) in model.pins.iter().enumerate() {
+            self.lengthen(nets, timed, place, pin)?;
+        }
+        Ok(())
+    }
+
+    /// Adds all parts.
+    fn put_all(&mut self, nets: &mut Nets) -> Result<(), Fault> {
+        self.put_wires(nets)?;
+        self.put_registers(nets)?;
+        self.put_outputs(nets)
+    }
+}
+
+/// The gates and registers that make up a cell of this kind, which may have delays of a file.
 fn parts_of(
     alloc: Global,
     cell: &WrittenCell,
     nets: &mut Nets,
     model: &LibraryCell,
-) -> Result<Vec<Cell>, Fault> {
+    timed: Option<&Timed<'_>>,
+) -> Result<Parts, Fault> {
     let bits = connections(alloc, nets, model, cell)?;
     let mut making = Making {
         alloc,
@@ -573,22 +763,38 @@ fn parts_of(
         bits,
         plain: None,
         negated: None,
-        cells: Vec::new(alloc),
+        timed,
+        parts: Parts::new(alloc),
     };
-    making.put_registers(nets)?;
-    making.put_outputs(nets)?;
-    Ok(making.cells)
+    making.put_all(nets)?;
+    Ok(making.parts)
+}
+
+/// The same with the delays of an instance.
+fn timed_parts_of(
+    site: Site<'_>,
+    name: &str,
+    cell: &WrittenCell,
+    nets: &mut Nets,
+    model: &LibraryCell,
+) -> Result<Parts, Fault> {
+    let Some(delays) = site.delays else {
+        return parts_of(site.alloc, cell, nets, model, None);
+    };
+    let timed = Timed::new(site.alloc, delays, name, cell.kind.as_str())?;
+    parts_of(site.alloc, cell, nets, model, Some(&timed))
 }
 
 /// The gates and registers that make up a cell of a library.
 pub(crate) fn library_cells(
-    alloc: Global,
+    site: Site<'_>,
+    name: &str,
     cell: &WrittenCell,
     nets: &mut Nets,
     entry: &LibraryEntry,
-) -> Result<Vec<Cell>, Fault> {
+) -> Result<Parts, Fault> {
     match entry {
-        LibraryEntry::Known(model) => parts_of(alloc, cell, nets, model),
-        LibraryEntry::Refused(told) => Err(Fault::of(alloc, &[told.as_str()])),
+        LibraryEntry::Known(model) => timed_parts_of(site, name, cell, nets, model),
+        LibraryEntry::Refused(told) => Err(Fault::of(site.alloc, &[told.as_str()])),
     }
 }

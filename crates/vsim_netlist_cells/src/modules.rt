@@ -2,10 +2,11 @@
 
 use crate::document::{Document, Members, Module, WrittenCell, WrittenName, WrittenPort};
 use crate::kinds::{Site, make_cells};
+use crate::library_cells::{Parts, buffer};
 use crate::nets::Nets;
 use indexmap::IndexSet;
 use std::alloc::{AllocError, Global};
-use vsim_netlist_design::{Cell, Draft, Fault, Library, Netlist, Port, Variable, push};
+use vsim_netlist_design::{Bit, Delays, Draft, Fault, Library, Netlist, Port, Variable, push};
 
 /// Whether a module is marked as the top.
 fn is_top(module: &Module) -> bool {
@@ -138,9 +139,9 @@ fn placed_cells(
     nets: &mut Nets,
     name: &str,
     written: &WrittenCell,
-) -> Result<Vec<Cell>, Fault> {
-    match make_cells(site, written, nets) {
-        Ok(cells) => Ok(cells),
+) -> Result<Parts, Fault> {
+    match make_cells(site, name, written, nets) {
+        Ok(parts) => Ok(parts),
         Err(fault) => Err(about_cell(site.alloc, fault, name, written)),
     }
 }
@@ -169,6 +170,23 @@ fn put_origins(origins: &mut Vec<String>, origin: &String, count: usize) -> Resu
     Ok(())
 }
 
+/// Adds the cells that make up one, with their delays.
+fn append(netlist: &mut Netlist, parts: &mut Parts) -> Result<(), AllocError> {
+    netlist.cells.append(&mut parts.cells)?;
+    netlist.timings.append(&mut parts.timings)
+}
+
+/// Notes that a cell has the name of an instance of which a file has delays, if it has.
+fn note_instance(site: Site<'_>, netlist: &mut Netlist, name: &str) {
+    let Some(delays) = site.delays else {
+        return;
+    };
+    let place = delays.instances.find(name).unwrap_or(usize::MAX);
+    if let Some(is_there) = netlist.instances.get_mut(place) {
+        *is_there = true;
+    }
+}
+
 /// Adds the cells that make up one, none if that has no effect in a simulation.
 fn put_parts_of_cell(
     site: Site<'_>,
@@ -178,9 +196,9 @@ fn put_parts_of_cell(
     written: &WrittenCell,
     origin: &String,
 ) -> Result<(), Fault> {
-    let mut cells = placed_cells(site, nets, name, written)?;
-    put_origins(&mut netlist.origins, origin, cells.len())?;
-    Ok(netlist.cells.append(&mut cells)?)
+    let mut parts = placed_cells(site, nets, name, written)?;
+    put_origins(&mut netlist.origins, origin, parts.cells.len())?;
+    Ok(append(netlist, &mut parts)?)
 }
 
 /// Adds a cell whose name is not among these, and notes its name.
@@ -194,6 +212,7 @@ fn put_new_cell(
 ) -> Result<(), Fault> {
     let origin = origin(site.alloc, name.as_str(), written)?;
     note(site.alloc, names, name, origin.as_str())?;
+    note_instance(site, netlist, name.as_str());
     put_parts_of_cell(site, nets, netlist, name.as_str(), written, &origin)
 }
 
@@ -288,6 +307,75 @@ fn put_variables(
     put_each_variable(alloc, nets, &mut netlist.variables, &escaped, written)
 }
 
+/// The bits of an input whose nets follow others a delta cycle later.
+fn delayed_bits(
+    alloc: Global,
+    nets: &mut Nets,
+    parts: &mut Parts,
+    bits: &[Bit],
+) -> Result<Vec<Bit>, AllocError> {
+    let mut before = Vec::new(alloc);
+    for bit in bits {
+        push(&mut before, delayed_bit(alloc, nets, parts, *bit)?)?;
+    }
+    Ok(before)
+}
+
+/// The bit that a net follows a delta cycle later.
+fn delayed_bit(
+    alloc: Global,
+    nets: &mut Nets,
+    parts: &mut Parts,
+    bit: Bit,
+) -> Result<Bit, AllocError> {
+    let Bit::Net(net) = bit else {
+        return Ok(bit);
+    };
+    let before = nets.add()?;
+    parts.put(buffer(alloc, before, net)?, None)?;
+    Ok(Bit::Net(before))
+}
+
+/// Lets the nets of inputs follow others a delta cycle later. So they change at time 0, where they
+/// have their first values, and paths have their delays.
+fn delay_inputs(
+    alloc: Global,
+    nets: &mut Nets,
+    ports: &mut Vec<Port>,
+    parts: &mut Parts,
+) -> Result<(), AllocError> {
+    for port in ports.iter_mut() {
+        if port.is_input {
+            port.bits = delayed_bits(alloc, nets, parts, port.bits.as_slice())?;
+        }
+    }
+    Ok(())
+}
+
+/// Adds the ports of a module, with what is before their nets if cells have delays of a file.
+fn put_all_ports(
+    site: Site<'_>,
+    nets: &mut Nets,
+    netlist: &mut Netlist,
+    module: &Module,
+) -> Result<(), Fault> {
+    let alloc = site.alloc;
+    put_ports(alloc, nets, &mut netlist.ports, &module.ports)?;
+    if site.delays.is_none() {
+        return Ok(());
+    }
+    let mut parts = Parts::new(alloc);
+    delay_inputs(alloc, nets, &mut netlist.ports, &mut parts)?;
+    put_inputs(alloc, netlist, &mut parts)
+}
+
+/// Adds the buffers of inputs.
+fn put_inputs(alloc: Global, netlist: &mut Netlist, parts: &mut Parts) -> Result<(), Fault> {
+    let origin = String::from_str(alloc, "an input")?;
+    put_origins(&mut netlist.origins, &origin, parts.cells.len())?;
+    Ok(append(netlist, parts)?)
+}
+
 /// Adds the ports, cells and names of a module.
 fn put_parts(
     site: Site<'_>,
@@ -296,7 +384,7 @@ fn put_parts(
     module: &Module,
 ) -> Result<(), Fault> {
     let alloc = site.alloc;
-    put_ports(alloc, nets, &mut netlist.ports, &module.ports)?;
+    put_all_ports(site, nets, netlist, module)?;
     put_cells(site, nets, netlist, &module.cells)?;
     Ok(put_variables(alloc, nets, netlist, &module.netnames)?)
 }
@@ -309,6 +397,14 @@ fn put_module(site: Site<'_>, netlist: &mut Netlist, module: &Module) -> Result<
     Ok(())
 }
 
+/// The number of instances of which a file has delays.
+fn count_instances(site: Site<'_>) -> usize {
+    match site.delays {
+        Some(delays) => delays.instances.lists.len(),
+        None => 0,
+    }
+}
+
 /// Reads the netlist of a module.
 fn make_netlist(site: Site<'_>, name: &str, module: &Module) -> Result<Netlist, Fault> {
     let alloc = site.alloc;
@@ -318,6 +414,8 @@ fn make_netlist(site: Site<'_>, name: &str, module: &Module) -> Result<Netlist, 
         ports: Vec::new(alloc),
         cells: Vec::new(alloc),
         origins: Vec::new(alloc),
+        timings: Vec::new(alloc),
+        instances: vec![in alloc; false; count_instances(site)]?,
         variables: Vec::new(alloc),
         nets: Vec::new(alloc),
     };
@@ -364,13 +462,19 @@ fn read_document(alloc: Global, text: &str) -> Result<Document, Fault> {
 }
 
 /// Reads the netlist of the module with this name, or of the one marked as the top. Its cells are
-/// those of Yosys, and those of this library.
+/// those of Yosys, and those of this library, which may have the delays of a file.
 pub fn read_netlist(
     alloc: Global,
     text: &str,
     top: Option<&str>,
     library: &Library,
+    delays: Option<&Delays>,
 ) -> Result<Netlist, Fault> {
     let document = read_document(alloc, text)?;
-    wanted_netlist(Site { alloc, library }, &document, top)
+    let site = Site {
+        alloc,
+        library,
+        delays,
+    };
+    wanted_netlist(site, &document, top)
 }

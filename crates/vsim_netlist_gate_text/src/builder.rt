@@ -1,10 +1,12 @@
 //! The gates and registers of a netlist as statements.
 
 use crate::processes::{Conditions, Process};
+use crate::timed::{computation, enabled_computation, put_timed};
 use indexmap::IndexSet;
 use std::alloc::{AllocError, Global};
 use vsim_netlist_design::{
-    Bit, Cell, Conflict, Control, Draft, Gate, GateCell, Level, Netlist, Register, Style, push,
+    Bit, Cell, Conflict, Control, Draft, Gate, GateCell, Level, Netlist, Register, Style, Timing,
+    push,
 };
 use vsim_netlist_signals::{
     Delay, Expression, NamedDelay, Statements, delay_of, function_expression, gate_expression,
@@ -385,12 +387,93 @@ impl<'a> Builder<'a> {
         }
     }
 
+    /// The value of a three-state buffer with delays of its paths, if it is connected.
+    fn enabled(&mut self, gate: &GateCell) -> Result<Draft, AllocError> {
+        let [data @ .., enable] = gate.inputs.as_slice() else {
+            return Ok(Draft::new(self.alloc));
+        };
+        let value = self.tristate_value(gate, data)?;
+        let (alloc, enable) = (self.alloc, self.statements.bit_name(*enable));
+        Ok(enabled_computation(alloc, &value, enable, !gate.is_low))
+    }
+
+    /// Adds a gate with the delays of its paths.
+    fn take_timed_gate(&mut self, gate: &GateCell, timing: &Timing) -> Result<(), AllocError> {
+        if gate.gate == Gate::Tristate {
+            let (computed, first) = (self.enabled(gate)?, Some(Level::Unknown));
+            return put_timed(&mut self.statements, gate.output, timing, &computed, first);
+        }
+        let expression = self.expression(gate)?;
+        if let Some(delay) = timing.only() {
+            let (rise, fall) = (delay, delay);
+            assign(
+                &mut self.statements,
+                gate.output,
+                &expression,
+                Delay { rise, fall },
+            );
+            return Ok(());
+        }
+        let computed = computation(self.alloc, &expression);
+        put_timed(&mut self.statements, gate.output, timing, &computed, None)
+    }
+
+    /// The statements that compute the new value of a register.
+    fn computed(&mut self, register: &Register) -> Draft {
+        let conditions = conditions(&mut self.statements, register);
+        let list = Draft::new(self.alloc);
+        let mut process = Process::new(self.alloc, register.style, list, conditions);
+        compute_levels(&mut process, register);
+        let data = self.stored(register.data);
+        compute(self.alloc, &mut process.data, &data);
+        let mut text = Draft::new(self.alloc);
+        process.push_statements(self.alloc, &mut text);
+        text
+    }
+
+    /// Adds a register with the delays of its paths.
+    fn take_timed_register(
+        &mut self,
+        register: &Register,
+        timing: &Timing,
+    ) -> Result<(), AllocError> {
+        let computed = self.computed(register);
+        let initial = match self.netlist.nets.get(register.output) {
+            Some(net) => net.initial,
+            None => None,
+        };
+        put_timed(
+            &mut self.statements,
+            register.output,
+            timing,
+            &computed,
+            initial,
+        )
+    }
+
+    /// Adds a cell with the delays of its paths.
+    fn take_timed(&mut self, cell: &Cell, timing: &Timing) -> Result<(), AllocError> {
+        match cell {
+            Cell::Gate(gate) => self.take_timed_gate(gate, timing),
+            Cell::Register(register) => self.take_timed_register(register, timing),
+        }
+    }
+
+    /// Adds a cell without them.
+    fn take_plain(&mut self, cell: &Cell) -> Result<(), AllocError> {
+        match cell {
+            Cell::Gate(gate) => self.take_gate(gate),
+            Cell::Register(register) => self.take_register(register),
+        }
+    }
+
     /// Adds the cell at an index.
     fn take_cell(&mut self, place: usize) -> Result<(), AllocError> {
-        match self.netlist.cells.get(place) {
-            Some(Cell::Gate(gate)) => self.take_gate(gate),
-            Some(Cell::Register(register)) => self.take_register(register),
-            None => Ok(()),
+        let netlist = self.netlist;
+        match (netlist.cells.get(place), netlist.timings.get(place)) {
+            (Some(cell), Some(Some(timing))) => self.take_timed(cell, timing),
+            (Some(cell), _) => self.take_plain(cell),
+            (None, _) => Ok(()),
         }
     }
 
@@ -442,6 +525,33 @@ fn fill_levels(process: &mut Process, register: &Register, target: &str, delay: 
         push_literal(&mut process.set, target, level.literal(), delay.to(level));
     }
     fill_conflict(process, register, target, delay);
+}
+
+/// Adds the computation of a register's value, if there is one.
+fn compute(alloc: Global, text: &mut Draft, value: &Option<Expression>) {
+    if let Some(value) = value {
+        text.push_draft(&computation(alloc, value));
+    }
+}
+
+/// Adds the computation of a level.
+fn compute_level(text: &mut Draft, level: Level) {
+    text.push_all(&["n:=", level.literal(), ";"]);
+}
+
+/// Adds the computations of what a register's set and reset give.
+fn compute_levels(process: &mut Process, register: &Register) {
+    if register.reset.is_some() {
+        compute_level(&mut process.reset, register.value);
+    }
+    if register.set.is_some() {
+        compute_level(&mut process.set, level_of_set(register.value));
+    }
+    match register.conflict {
+        Some(Conflict::Level(level)) => compute_level(&mut process.conflict, level),
+        Some(Conflict::Kept) => process.conflict.push("null;"),
+        None => {}
+    }
 }
 
 /// The value that a set gives, given that of the reset.

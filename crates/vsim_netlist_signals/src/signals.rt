@@ -38,6 +38,9 @@ static INITIALS: [(Option<Level>, &str); 5] = [
     (Some(Level::HighImpedance), ":='Z'"),
 ];
 
+/// The names of the variables of cells that have the delays of paths.
+static VARIABLES: [&str; 2] = ["v", "n"];
+
 /// The name of the entity.
 fn entity_name(alloc: Global, names: &mut Names, source: &str) -> Draft {
     let name = plain_name(alloc, &Draft::of(alloc, source));
@@ -48,6 +51,9 @@ impl Signals {
     /// No signals. The entity has the name of the netlist.
     fn new(alloc: Global, netlist: &Netlist) -> Signals {
         let mut names = Names::new(alloc);
+        if !netlist.instances.is_empty() {
+            names.reserve(&VARIABLES);
+        }
         let entity = entity_name(alloc, &mut names, netlist.name.as_str());
         Signals {
             alloc,

@@ -181,6 +181,9 @@ struct Manner<'a> {
     end: u64,
     /// The signal that stops the clocks, if there are any.
     running: Option<usize>,
+    /// Whether inputs may be in tables. Otherwise all that change at one time do so in one cycle,
+    /// so that a gate sees which of its inputs changed last.
+    has_tables: bool,
 }
 
 /// Adds an element of a waveform and what is before it. Its value is a signal that always has it, if
@@ -472,6 +475,9 @@ fn tables(
     nets: &[Driven<'_>],
     manner: Manner<'_>,
 ) -> Result<Vec<Tables>, AllocError> {
+    if !manner.has_tables {
+        return Ok(Vec::new(statements.alloc));
+    }
     let inputs = table_inputs(statements.alloc, nets, manner.clocks)?;
     let mut found = clocked_tables(statements, nets, manner, inputs.as_slice())?;
     add_stepped(statements, once, inputs.as_slice(), manner.hold, &mut found)?;
@@ -743,25 +749,26 @@ pub fn put_stimuli(
 ) -> Result<(), AllocError> {
     let nets = prepared(statements.alloc, netlist, stimuli)?;
     let end = last_edge(nets.as_slice());
-    put_driven(statements, nets.as_slice(), clocks, hold, end)
+    let has_tables = netlist.instances.is_empty();
+    let manner = Manner {
+        clocks,
+        hold,
+        end,
+        running: None,
+        has_tables,
+    };
+    put_driven(statements, nets.as_slice(), manner)
 }
 
 /// Writes the drivers of the inputs, and the clocks.
 fn put_driven(
     statements: &mut Statements,
     nets: &[Driven<'_>],
-    clocks: &[bool],
-    hold: u64,
-    end: u64,
+    manner: Manner<'_>,
 ) -> Result<(), AllocError> {
     let mut once = Draft::new(statements.alloc);
-    let running = put_running(statements, &mut once, nets, end);
-    let manner = Manner {
-        clocks,
-        hold,
-        end,
-        running,
-    };
+    let running = put_running(statements, &mut once, nets, manner.end);
+    let manner = Manner { running, ..manner };
     put_inputs(statements, &mut once, nets, manner)?;
     put_once(statements, &once);
     Ok(())

@@ -1,0 +1,328 @@
+#!/usr/bin/env python3
+"""Runs netlists of cells with the delays of files in the standard delay format (SDF).
+
+    sdf.py VSIM VSIM_NETLIST [DAMAGED]
+
+Netlists of one or two cells, each with a rule of the format or of IEEE 1364's module paths, whose listings were worked out by hand from these
+rules; files with a fault, each refused by a sentence; what has no effect, told in one line; and a file with one token changed or removed,
+DAMAGED times (1,000 if it is not given), which end in a text that VSIM reads, or in a refusal, within 1 s.
+
+What differs is told, and the last line is `N passed, M failed`.
+"""
+import os
+import random
+import re
+import sys
+import tempfile
+import time
+
+sys.path.insert(0, os.path.dirname(os.path.realpath(__file__)))
+from netlist_texts import cell, demand, netlist, put_stimuli, run, tally  # noqa: E402
+
+DAMAGED = 1000
+SECONDS = 1
+# the most bytes of a cell of two inputs
+BYTES = 250
+
+LIBRARY = """library (l) {
+cell (BUF) { pin (A) { direction : input; } pin (Y) { direction : output; function : "A"; } }
+cell (INV) { pin (A) { direction : input; } pin (Y) { direction : output; function : "A'"; } }
+cell (OR2) { pin (A, B) { direction : input; } pin (Y) { direction : output; function : "A+B"; } }
+cell (AND2) { pin (A, B) { direction : input; } pin (Y) { direction : output; function : "A*B"; } }
+cell (XOR2) { pin (A, B) { direction : input; } pin (Y) { direction : output; function : "A^B"; } }
+cell (TIE1) { pin (Y) { direction : output; function : "1"; } }
+cell (TBUF) { pin (A, EN) { direction : input; } pin (Y) { direction : output; function : "A"; three_state : "EN'"; } }
+cell (DFF) { ff (IQ, IQN) { next_state : "D"; clocked_on : "CK"; } pin (D, CK) { direction : input; }
+  pin (Q) { direction : output; function : "IQ"; } pin (QN) { direction : output; function : "IQN"; } }
+cell (DFFR) { ff (IQ, IQN) { next_state : "D"; clocked_on : "CK"; clear : "R"; } pin (D, CK, R) { direction : input; }
+  pin (Q) { direction : output; function : "IQ"; } }
+cell (LATCH) { latch (IQ, IQN) { data_in : "D"; enable : "G"; } pin (D, G) { direction : input; }
+  pin (Q) { direction : output; function : "IQ"; } }
+cell (DFFI) { ff (IQ, IQN) { next_state : "D"; clocked_on : "CK"; } pin (D, CK) { direction : input; }
+  pin (Q) { direction : output; function : "IQ'"; } }
+}
+"""
+
+A, B, Y = [2], [4], [3]
+PORTS = {"a": {"direction": "input", "bits": A}, "b": {"direction": "input", "bits": B}, "y": {"direction": "output", "bits": Y}}
+
+
+def gate(kind, **pins):
+    """Returns a netlist of one cell u."""
+    return netlist({"u": cell(kind, pins)}, **PORTS)
+
+
+OR, XOR, BUF = gate("OR2", A=A, B=B, Y=Y), gate("XOR2", A=A, B=B, Y=Y), gate("BUF", A=A, Y=Y)
+CHAIN = {"u": cell("BUF", {"A": A, "Y": [9]}), "v": cell("BUF", {"A": [9], "Y": Y})}
+TWO = netlist(CHAIN, **PORTS)
+
+
+def file_of(*cells, head="(DIVIDER .) (TIMESCALE 1ps)"):
+    return f"(DELAYFILE (SDFVERSION \"3.0\") {head}\n" + "\n".join(cells) + "\n)\n"
+
+
+def of(kind, instance, *delays, mode="ABSOLUTE"):
+    """Returns a cell of a file."""
+    return f'(CELL (CELLTYPE "{kind}") (INSTANCE {instance}) (DELAY ({mode} {" ".join(delays)})))'
+
+
+def one(kind, *delays):
+    """Returns a file of one cell u."""
+    return file_of(of(kind, "u", *delays))
+
+
+ZERO = "0 a 0\n0 b 0\n"
+PULSES = ZERO + "100ps a 1\n104ps a 0\n200ps a 1\n210ps a 0\n"
+OR_PATHS = "(IOPATH A Y (9) (8)) (IOPATH B Y (5) (4))"
+TRIPLES = one("BUF", "(IOPATH A Y (1:2:3) (4:5:6))")
+UP_DOWN = ZERO + "100ps a 1\n200ps a 0\n"
+UP_DOWN_TWICE = UP_DOWN + "300ps b 1\n400ps a 1\n500ps a 0\n"
+WIRES = "0 X, 19000 0, 118000 1, 219000 0"
+BUFFERS = [of("BUF", "u", "(IOPATH A Y (10))"), of("BUF", "v", "(IOPATH A Y (5))")]
+
+# what the row is about, a netlist, a file, stimuli, words, and what the listing says of y
+LISTED = [
+    # the function becomes 0 when both inputs are known, after the least of both; b at 102 ps and a at 200 ps change nothing
+    ("the input that changed last", OR, one("OR2", OR_PATHS), ZERO + "100ps a 1\n102ps b 1\n200ps a 0\n210ps b 0\n", [],
+     "0 X, 4000 0, 109000 1, 214000 0"),
+    ("the least of several inputs", OR, one("OR2", OR_PATHS), ZERO + "100ps a 1\n100ps b 1\n200ps a 0\n200ps b 0\n", [],
+     "0 X, 4000 0, 105000 1, 204000 0"),
+    ("a pulse shorter than its delay", BUF, one("BUF", "(IOPATH A Y (9) (9))"), PULSES, [], "0 X, 9000 0, 209000 1, 219000 0"),
+    ("a rise that is slower than the fall after it", BUF, one("BUF", "(IOPATH A Y (20) (7))"), ZERO + "100ps a 1\n105ps a 0\n", [], "0 X, 7000 0"),
+    ("unknown values", BUF, one("BUF", "(IOPATH A Y (20) (7))"), ZERO + "100ps a x\n200ps a 0\n300ps a 1\n400ps a x\n500ps a 1\n", [],
+     "0 X, 7000 0, 120000 X, 207000 0, 320000 1, 407000 X, 520000 1"),
+    ("one value", BUF, one("BUF", "(IOPATH A Y (6))"), UP_DOWN, [], "0 X, 6000 0, 106000 1, 206000 0"),
+    ("the typical values", BUF, TRIPLES, UP_DOWN, [], "0 X, 5000 0, 102000 1, 205000 0"),
+    ("the minimum values", BUF, TRIPLES, UP_DOWN, ["--corner", "min"], "0 X, 4000 0, 101000 1, 204000 0"),
+    ("the maximum values", BUF, TRIPLES, UP_DOWN, ["--corner", "max"], "0 X, 6000 0, 103000 1, 206000 0"),
+    ("a value for all corners", BUF, one("BUF", "(IOPATH A Y (3) (4))"), UP_DOWN, ["--corner", "max"], "0 X, 4000 0, 103000 1, 204000 0"),
+    ("a corner that is empty, but not the one", BUF, one("BUF", "(IOPATH A Y (1::3))"), UP_DOWN, ["--corner", "max"],
+     "0 X, 3000 0, 103000 1, 203000 0"),
+    # the fall by A takes what B's takes
+    ("an empty value", OR, one("OR2", "(IOPATH A Y (9) ()) (IOPATH B Y (5) (4))"), UP_DOWN, [], "0 X, 4000 0, 109000 1, 204000 0"),
+    ("a second ABSOLUTE", BUF, one("BUF", "(IOPATH A Y (9) (8)) (IOPATH A Y (7) ())"), UP_DOWN, [], "0 X, 8000 0, 107000 1, 208000 0"),
+    ("INCREMENT", BUF, file_of(of("BUF", "u", "(IOPATH A Y (9) (8))"), of("BUF", "u", "(IOPATH A Y (1) (-2))", mode="INCREMENT")), UP_DOWN, [],
+     "0 X, 6000 0, 110000 1, 206000 0"),
+    ("INCREMENT below 0", BUF, file_of(of("BUF", "u", "(IOPATH A Y (9))"), of("BUF", "u", "(IOPATH A Y (-20))", mode="INCREMENT")), UP_DOWN, [],
+     "0 X, 0 0, 100000 1, 200000 0"),
+    ("a negative delay", BUF, one("BUF", "(IOPATH A Y (-3) (4))"), UP_DOWN, [], "0 X, 4000 0, 100000 1, 204000 0"),
+    ("COND", XOR, one("XOR2", "(COND B==1'b0 (IOPATH A Y (10) (11))) (COND B == 1'b1 (IOPATH A Y (20) (21))) (IOPATH B Y (5))"), UP_DOWN_TWICE, [],
+     "0 X, 5000 0, 110000 1, 211000 0, 305000 1, 421000 0, 520000 1"),
+    ("COND with a name and parentheses", XOR,
+     one("XOR2", '(COND "low" (!(B)) (IOPATH A Y (10) (11))) (COND (B && 1\'b1) (IOPATH A Y (20) (21))) (IOPATH B Y (5))'), UP_DOWN_TWICE, [],
+     "0 X, 5000 0, 110000 1, 211000 0, 305000 1, 421000 0, 520000 1"),
+    ("COND after a path without", XOR, one("XOR2", "(IOPATH A Y (7)) (COND B (IOPATH A Y (17))) (IOPATH B Y (5))"), UP_DOWN_TWICE, [],
+     "0 X, 5000 0, 107000 1, 207000 0, 305000 1, 417000 0, 517000 1"),
+    ("COND before a path without", XOR, one("XOR2", "(COND B (IOPATH A Y (17))) (IOPATH A Y (7)) (IOPATH B Y (5))"), UP_DOWN_TWICE, [],
+     "0 X, 5000 0, 107000 1, 207000 0, 305000 1, 407000 0, 507000 1"),
+    ("CONDELSE", XOR, one("XOR2", "(COND B (IOPATH A Y (17))) (CONDELSE (IOPATH A Y (7))) (IOPATH B Y (5))"), UP_DOWN_TWICE, [],
+     "0 X, 5000 0, 107000 1, 207000 0, 305000 1, 417000 0, 517000 1"),
+    ("posedge and negedge", XOR, one("XOR2", "(IOPATH (posedge A) Y (10)) (IOPATH (negedge A) Y (20)) (IOPATH B Y (5))"), UP_DOWN_TWICE, [],
+     "0 X, 5000 0, 110000 1, 220000 0, 305000 1, 410000 0, 520000 1"),
+    ("INTERCONNECT", TWO, file_of(of("top", "", "(INTERCONNECT u.Y v.A (3) (4))"), *BUFFERS), UP_DOWN, [], WIRES),
+    ("PORT", TWO, file_of(*BUFFERS, of("BUF", "v", "(PORT A (3) (4))")), UP_DOWN, [], WIRES),
+    ("PORT from above", TWO, file_of(*BUFFERS, of("top", "", "(PORT v.A (3) (4))")), UP_DOWN, [], WIRES),
+    ("wires that take no time", TWO, file_of(of("top", "", "(INTERCONNECT u.Y v.A (0)) (INTERCONNECT a u.A (0)) (INTERCONNECT v.Y y (0))"), *BUFFERS),
+     UP_DOWN, [], "0 X, 15000 0, 115000 1, 215000 0"),
+    ("DEVICE", OR, one("OR2", "(DEVICE Y (6) (7))"), UP_DOWN, [], "0 X, 7000 0, 106000 1, 207000 0"),
+    ("DEVICE after IOPATH", OR, one("OR2", OR_PATHS, "(DEVICE (6) (7))"), UP_DOWN, [], "0 X, 7000 0, 106000 1, 207000 0"),
+    ("all cells of a kind", TWO, file_of(of("BUF", "*", "(IOPATH A Y (6))"), of("BUF", "v", "(IOPATH A Y (7))")), UP_DOWN, [],
+     "0 X, 13000 0, 113000 1, 213000 0"),
+    ("all cells of a kind, after one", TWO, file_of(of("BUF", "v", "(IOPATH A Y (7))"), of("BUF", "*", "(IOPATH A Y (6))")), UP_DOWN, [],
+     "0 X, 12000 0, 112000 1, 212000 0"),
+    ("another divider", netlist({"p.u": CHAIN["u"], "p/v": CHAIN["v"]}, **PORTS),
+     file_of(of("BUF", "p/u", "(IOPATH A Y (10))"), of("BUF", "p\\/v", "(IOPATH A Y (5))"), of("top", "", "(INTERCONNECT p/u/Y p\\/v/A (3) (4))"),
+             head="(DIVIDER /) (TIMESCALE 1ps)"), UP_DOWN, [], WIRES),
+    ("escaped names", netlist({"$abc$1.u": CHAIN["u"], "v[3]": CHAIN["v"]}, **PORTS),
+     file_of(of("BUF", "\\$abc\\$1\\.u", "(IOPATH A Y (10))"), of("BUF", "v\\[3\\]", "(IOPATH A Y (5))"),
+             of("top", "", "(INTERCONNECT \\$abc\\$1\\.u.Y v\\[3\\].A (3) (4))")), UP_DOWN, [], WIRES),
+    ("100 ps", BUF, file_of(of("BUF", "u", "(IOPATH A Y (0.5))"), head="(TIMESCALE 100 ps)"), UP_DOWN, [], "0 X, 50000 0, 150000 1, 250000 0"),
+    ("no time scale", BUF, file_of(of("BUF", "u", "(IOPATH A Y (0.0125))"), head=""), UP_DOWN, [], "0 X, 12500 0, 112500 1, 212500 0"),
+    ("numbers", BUF, one("BUF", "(IOPATH A Y (1.5e1) (+.2E+1))"), UP_DOWN, [], "0 X, 2000 0, 115000 1, 202000 0"),
+    ("a part of a femtosecond", BUF, one("BUF", "(IOPATH A Y (0.0005) (0.00149))"), UP_DOWN, [], "0 X, 1 0, 100001 1, 200001 0"),
+    ("comments and pulse limits", BUF, one("BUF", "(IOPATH A Y // (1)\n ((3) (1) (2)) /* ( */ (4))"), UP_DOWN, [], "0 X, 4000 0, 103000 1, 204000 0"),
+    ("one net at two pins", gate("AND2", A=A, B=A, Y=Y), one("AND2", "(IOPATH A Y (9)) (IOPATH B Y (5))"), UP_DOWN, [],
+     "0 X, 5000 0, 105000 1, 205000 0"),
+    ("a constant at a pin", gate("AND2", A=A, B=["1"], Y=Y), one("AND2", "(IOPATH A Y (9)) (IOPATH B Y (5))"), UP_DOWN, [],
+     "0 X, 9000 0, 109000 1, 209000 0"),
+    # from z to 1 as a rise; to z by the third value
+    ("three values", gate("TBUF", A=A, EN=B, Y=Y), one("TBUF", "(IOPATH A Y (10) (12)) (IOPATH EN Y (5) (6) (7))"),
+     ZERO + "100ps a 1\n200ps b 1\n300ps a 0\n400ps b 0\n", [], "0 X, 7000 Z, 205000 1, 312000 0, 407000 Z"),
+    # from x to z the longer of both, from 1 to z as a fall
+    ("two values of a three-state output", gate("TBUF", A=A, EN=B, Y=Y), one("TBUF", "(IOPATH A Y (10) (12)) (IOPATH EN Y (5) (6))"),
+     ZERO + "100ps a 1\n200ps b 1\n400ps b 0\n", [], "0 X, 6000 Z, 205000 1, 406000 Z"),
+    ("a register", gate("DFF", D=A, CK=B, Q=Y), one("DFF", "(IOPATH (posedge CK) Q (10) (12))"),
+     "0 a 1\n0 b 0\n100ps b 1\n150ps b 0\n200ps a 0\n300ps b 1\n", [], "0 X, 110000 1, 312000 0"),
+    ("its negation", gate("DFF", D=A, CK=B, QN=Y), one("DFF", "(IOPATH CK Q (1)) (IOPATH CK QN (10) (12))"),
+     "0 a 1\n0 b 0\n100ps b 1\n150ps b 0\n200ps a 0\n300ps b 1\n", [], "0 X, 112000 0, 310000 1"),
+    ("a reset", gate("DFFR", D=["1"], CK=B, R=A, Q=Y), one("DFFR", "(IOPATH CK Q (10) (12)) (IOPATH R Q () (8))"),
+     "0 a 1\n0 b 0\n50ps a 0\n100ps b 1\n200ps a 1\n", [], "0 X, 8000 0, 110000 1, 208000 0"),
+    ("a latch", gate("LATCH", D=A, G=B, Q=Y), one("LATCH", "(IOPATH D Q (10) (11)) (IOPATH G Q (20) (21))"),
+     "0 a 0\n0 b 1\n100ps a 1\n150ps b 0\n200ps a 0\n300ps b 1\n", [], "0 X, 11000 0, 110000 1, 321000 0"),
+    ("a cell without inputs", gate("TIE1", Y=Y), file_of(), ZERO + "1ns a 1\n", [], "0 X, 0 1"),
+    ("a cell of Yosys beside it", netlist({"u": CHAIN["u"], "v": cell("$_NOT_", {"A": [9], "Y": Y})}, **PORTS), one("BUF", "(IOPATH A Y (6))"),
+     UP_DOWN, ["--delays", "not=3ps"], "0 X, 9000 1, 109000 0, 209000 1"),
+]
+
+
+def put(folder, name, text):
+    path = f"{folder}/{name}"
+    with open(path, "w", encoding="utf-8") as file:
+        file.write(text)
+    return path
+
+
+def words_of(folder, text):
+    return ["--liberty", put(folder, "cells.lib", LIBRARY), "--sdf", put(folder, "delays.sdf", text)]
+
+
+def is_listed(programs, folder, given, text, stimuli, words, wanted):
+    """Demands that the listing of a netlist with the delays of a file has these values of y."""
+    words = [*words_of(folder, text), *put_stimuli(folder, stimuli), *words]
+    status, made, said = run([programs[1], *words], given.encode())
+    demand(status == 0, said)
+    status, listing, said = run([programs[0], "--top", "top"], made)
+    demand(status == 0, f"vsim: {said} for {made.decode()}")
+    lines = [line.split() for line in listing.decode().splitlines()]
+    found = ", ".join(f"{it[0]} {it[3]}" for it in lines if len(it) == 4 and it[2] == "y")
+    demand(found == wanted, f"y is {found} in place of {wanted}")
+
+
+PATHS = "(IOPATH A Y (1))"
+# a netlist, a file, words, and what is told
+REFUSED = [
+    (BUF, "", [], "the SDF file: 1: the file ends, where a parenthesis is wanted"),
+    (BUF, "(DELAY)", [], "the SDF file: 1: '(DELAYFILE' is wanted"),
+    (BUF, "(DELAYFILE", [], "the SDF file: 1: the file ends, where a parenthesis is wanted"),
+    (BUF, "(DELAYFILE (CELL (DELAY\n(ABSOLUTE", [], "the SDF file: 2: the file ends, where a parenthesis is wanted"),
+    (BUF, file_of() + ")", [], "the SDF file: 4: ')' stands where the end of the file is wanted"),
+    (BUF, file_of("(DATE \"today)"), [], "the SDF file: 2: a quotation mark does not close"),
+    (BUF, file_of("/* a comment"), [], "the SDF file: 2: a comment does not end"),
+    (BUF, file_of("(INSTANCE u)"), [], "the SDF file: 2: 'INSTANCE' is not supported here"),
+    (BUF, file_of(head="(DIVIDER |)"), [], "the SDF file: 1: a DIVIDER other than . and / is not supported"),
+    (BUF, file_of(head="(TIMESCALE 20ps)"), [], "the SDF file: 1: '20ps' is no TIMESCALE, as 100ps is"),
+    (BUF, one("BUF", "\n\n(IOPATH A Y (0.183::0.183))"), [], "the SDF file: 4: (0.183::0.183) has no typical value: use --corner min or max"),
+    (BUF, one("BUF", "(IOPATH A Y (:2:))"), ["--corner", "max"], "the SDF file: 2: (:2:) has no maximum value: use --corner typ"),
+    (BUF, one("BUF", "(IOPATH A Y (1:2:))"), ["--corner", "max"], "the SDF file: 2: (1:2:) has no maximum value: use --corner min or typ"),
+    (BUF, one("BUF", "(IOPATH A Y (1:2))"), [], "the SDF file: 2: (1:2) is no value"),
+    (BUF, one("BUF", "(IOPATH A Y (1x))"), [], "the SDF file: 2: (1x) is no value"),
+    (BUF, one("BUF", "(IOPATH A Y (1e30))"), [], "the SDF file: 2: (1e30) is too long"),
+    (BUF, one("BUF", "(IOPATH A Y 1)"), [], "the SDF file: 2: '1' stands where a delay is wanted"),
+    (BUF, one("BUF", "(IOPATH A Y)"), [], "the SDF file: 2: IOPATH has no delay"),
+    (BUF, one("BUF", "(IOPATH A Y (1) (1) (1) (1) (1) (1))"), [], "the SDF file: 2: IOPATH: more than three values are not supported"),
+    (BUF, one("BUF", "(IOPATH (01 A) Y (1))"), [], "the SDF file: 2: an edge other than posedge and negedge is not supported"),
+    (BUF, one("BUF", "(IOPATH A)"), [], "the SDF file: 2: ')' stands where a pin is wanted"),
+    (BUF, one("BUF", "(COND A=== 1'b1 (IOPATH A Y (1)))"), [],
+     "the SDF file: 2: the condition 'A=== 1'b1': it has a sign or an operator that is not supported"),
+    (BUF, one("BUF", "(COND A B (IOPATH A Y (1)))"), [], "the SDF file: 2: the condition 'A B': an operator is missing"),
+    (BUF, one("BUF", "(COND A && (IOPATH A Y (1)))"), [], "the SDF file: 2: the condition 'A &&': an operand is missing"),
+    (BUF, one("BUF", "(COND (IOPATH A Y (1)))"), [], "the SDF file: 2: the condition '': an operand is missing"),
+    (BUF, one("BUF", "(COND A)"), [], "the SDF file: 2: ')' stands where a condition and an IOPATH is wanted"),
+    (BUF, one("BUF", "(COND " + "!(A&" * 60 + "A" + ")" * 60 + " (IOPATH A Y (1)))"), [], "it is too deep"),
+    (BUF, one("BUF", "(COND A" + "&A" * 600 + " (IOPATH A Y (1)))"), [], "it is too"),
+    (BUF, file_of('(CELL (CELLTYPE "BUF") (DELAY (ABSOLUTE (IOPATH A Y (1)))))'), [], "the SDF file: 2: a delay stands before the INSTANCE of its cell"),
+    (BUF, file_of(of("BUF", "u", PATHS), of("INV", "u", PATHS)), [], 'the SDF file: 3: instance u: CELLTYPE "INV", and "BUF" before'),
+    (BUF, file_of(of("BUF", "u", PATHS), of("BUF", "u7", PATHS)), [],
+     "the SDF file: 3: instance u7: the netlist has no such cell: after rename -enumerate"),
+    (BUF, file_of(of("BUF", "u", PATHS), of("top", "", "(INTERCONNECT u.Y v.A (1))")), [], "the SDF file: 3: instance v: the netlist has no such cell"),
+    (BUF, file_of(of("BUF", "u", PATHS), of("top", "", "(INTERCONNECT u.Y y (1))")), [], "the SDF file: 3: a delay of the design itself is not supported"),
+    (BUF, file_of(of("BUF", "*", PATHS, "(INTERCONNECT u.Y y (1))")), [],
+     "the SDF file: 2: INTERCONNECT is not supported in a cell without the name of an instance"),
+    (BUF, one("BUF", "(IOPATH Z Y (1))"), [], "the netlist: cell u of type BUF: the SDF file has a delay of its pin Z, which is not there"),
+    (OR, one("OR2", "(COND C (IOPATH A Y (1)))"), [], "cell u of type OR2: the SDF file has a delay of its pin C, which is not there"),
+    (BUF, file_of(), [], "the netlist: cell u of type BUF: the SDF file has no path to its output Y"),
+    (gate("DFFI", D=A, CK=B, Q=Y), one("DFFI", "(IOPATH CK Q (1))"), [], "cell u of type DFFI: a register whose output or control is a formula"),
+    (BUF, one("BUF", PATHS), ["--corner", "best"], "--corner: 'best' is none of min, typ and max"),
+]
+
+
+def is_refused(program, folder, given, text, words, told):
+    """Demands that a file is refused by a sentence."""
+    status, out, said = run([program, *words_of(folder, text), *words], given.encode())
+    demand(status == 1 and not out, f"status {status}: {said}")
+    demand(said.startswith("vsim_netlist: ") and told in said and said.count("\n") == 1, said)
+
+
+CHECKS = """(TIMINGCHECK (SETUP A (posedge B) (1)) (HOLD A (posedge B) (1)) (HOLD (negedge A) (COND A (posedge B)) (1)))
+(TIMINGENV (PATHCONSTRAINT a b (1))) (LABEL (ABSOLUTE (t (1))))"""
+
+
+def is_noted(programs, folder):
+    """Demands that what has no effect is told in one line, and negative delays in another."""
+    text = file_of(of("BUF", "u", "(IOPATH A Y (RETAIN (1)) (-1) (2)) (NETDELAY Y (1))")[:-1] + CHECKS + ")")
+    status, _, said = run([programs[1], *words_of(folder, text)], BUF.encode())
+    demand(status == 0, said)
+    wanted = ("vsim_netlist: the SDF file: without effect: RETAIN 1, NETDELAY 1, SETUP 1, HOLD 2, TIMINGENV 1, LABEL 1\n"
+              "vsim_netlist: the SDF file: negative delays, which count as 0: 1\n")
+    demand(said == wanted, said)
+
+
+def are_short(programs, folder):
+    """Demands that a cell of two inputs with its paths takes few bytes."""
+    count = 500
+    cells = {f"u{it}": cell("OR2", {"A": [100 + it], "B": [101 + it], "Y": [102 + it]}) for it in range(count)}
+    text = file_of(*(of("OR2", f"u{it}", f"(IOPATH A Y ({it}) ({it + 3})) (IOPATH B Y ({it + 2}) ({it + 4}))") for it in range(count)))
+    status, made, said = run([programs[1], *words_of(folder, text)], netlist(cells, **PORTS).encode())
+    demand(status == 0, said)
+    demand(len(made) <= BYTES * count, f"{len(made) / count} bytes for a cell")
+    return f"{len(made) / count:.0f} bytes for a cell"
+
+
+def is_linear(programs, folder):
+    """Demands that a long file is read in a time that goes with its length, and refused for an instance that the netlist has not."""
+    seconds = []
+    for count in (20_000, 80_000):
+        text = file_of(*(of("OR2", f"u_{it}_", "(IOPATH A Y (0.1:0.2:0.3) (0.2:0.3:0.4)) (IOPATH B Y (0.1:0.2:0.3) (0.2:0.3:0.4))")
+                         for it in range(count)))
+        words, begin = words_of(folder, text), time.time()
+        status, _, said = run([programs[1], *words], BUF.encode())
+        seconds.append(time.time() - begin)
+        demand(status == 1, said)
+    demand(seconds[1] < 8 * seconds[0] + 0.2, f"{seconds} s")
+    return f"{len(text) / 1e6 / seconds[1]:.0f} MB a second"
+
+
+def are_damaged(programs, folder, count):
+    """Demands that a file with one token changed or removed ends in a text that vsim reads, or in a refusal."""
+    whole = file_of(of("top", "", "(INTERCONNECT u.Y v.A (1:2:3) (4))"), of("XOR2", "u", "(IOPATH (posedge A) Y (1) (2))",
+                    '(COND "c" (A==1\'b1 && !B) (IOPATH B Y (1:2:3) (3)))', "(CONDELSE (IOPATH B Y (4)))"),
+                    of("TBUF", "v", "(IOPATH A Y (1) (2) (3))", "(DEVICE Y (0.1))")[:-1] + CHECKS + ")", of("BUF", "*", "(PORT A (2))", mode="INCREMENT"))
+    given = netlist({"u": cell("XOR2", {"A": A, "B": B, "Y": [9]}), "v": cell("TBUF", {"A": [9], "EN": B, "Y": Y})}, **PORTS).encode()
+    tokens = re.findall(r'"[^"]*"|[^\s()"]+|[()"]|\s+', whole)
+    chance, texts = random.Random(12), 0
+    for number in range(count):
+        place = chance.randrange(len(tokens))
+        others = ["", "", "(", ")", '"', "\\", "/*", "//", "A", "u", "*", "IOPATH", "(1)", "1e9", "-5", "::", "DELAY", "&&", chance.choice(tokens)]
+        text = "".join([*tokens[:place], chance.choice(others), *tokens[place + 1:]])
+        status, out, said = run([programs[1], *words_of(folder, text)], given, SECONDS)
+        demand(status in (0, 1), f"status {status} for damage {number}: {said}")
+        if status == 1:
+            demand(said.startswith("vsim_netlist: ") and said.count("\n") == 1 and not out, f"damage {number}: {said}")
+        elif number % 5 == 0:
+            texts += 1
+            status, _, said = run([programs[0], "--top", "top"], out, SECONDS)
+            demand(status == 0, f"damage {number}: vsim: {said}")
+    demand(count < 100 or texts > 2, f"{texts} texts")
+
+
+def tests_of(programs, folder, damaged):
+    for name, *row in LISTED:
+        yield name, lambda row=row: is_listed(programs, folder, *row)
+    for row in REFUSED:
+        yield row[3], lambda row=row: is_refused(programs[1], folder, *row)
+    yield "without effect", lambda: is_noted(programs, folder)
+    yield "length of the text", lambda: are_short(programs, folder)
+    yield "length of the file", lambda: is_linear(programs, folder)
+    yield "damaged files", lambda: are_damaged(programs, folder, damaged)
+
+
+def main():
+    if len(sys.argv) not in (3, 4):
+        sys.exit(__doc__)
+    programs, damaged = sys.argv[1:3], int(sys.argv[3]) if len(sys.argv) == 4 else DAMAGED
+    with tempfile.TemporaryDirectory() as folder:
+        sys.exit(tally(tests_of(programs, folder, damaged)) != 0)
+
+
+if __name__ == "__main__":
+    main()
