@@ -46,6 +46,8 @@ pub(crate) struct Options<'a> {
     pub(crate) liberty: &'a [&'a str],
     sdf: &'a str,
     pub(crate) corner: &'a str,
+    /// The level with which registers begin.
+    pub(crate) initial: &'a str,
     pub(crate) delays: &'a str,
     pub(crate) hold: &'a str,
     map: &'a str,
@@ -148,7 +150,9 @@ fn with_libraries<'a>(alloc: Global, command: Command<'a>) -> Result<Command<'a>
     let help = "The delays of the libraries' cells";
     let command = with_valued(alloc, command, "sdf", "FILE", help)?;
     let help = "Which delays: min, typ (the default) or max";
-    with_valued(alloc, command, "corner", "CORNER", help)
+    let command = with_valued(alloc, command, "corner", "CORNER", help)?;
+    let help = "With what registers and latches begin: 0 or 1";
+    with_valued(alloc, command, "init", "LEVEL", help)
 }
 
 /// Adds the options about what to simulate.
@@ -208,6 +212,7 @@ pub(crate) fn make_options<'a>(matches: &'a ArgMatches<'_>) -> Options<'a> {
         liberty: values(matches, "liberty"),
         sdf: value(matches, "sdf"),
         corner: value(matches, "corner"),
+        initial: value(matches, "init"),
         delays: value(matches, "delays"),
         hold: value(matches, "hold"),
         map: value(matches, "map"),

@@ -6,7 +6,7 @@ use crate::delay_list::{read_delays, read_hold};
 use crate::text::{Request, Written, write_text};
 use std::alloc::{AllocError, Global};
 use vsim_netlist_cells::read_netlist;
-use vsim_netlist_design::{Delays, Draft, Fault, Library, Netlist, Port, Stimuli, push};
+use vsim_netlist_design::{Delays, Draft, Fault, Level, Library, Netlist, Port, Stimuli, push};
 use vsim_netlist_stimuli::{Input, LATEST, read_stimuli};
 
 /// Adds an input.
@@ -45,6 +45,16 @@ fn stimuli(
     }
 }
 
+/// The level with which registers and latches begin, if it is given.
+fn read_initial(alloc: Global, word: &str) -> Result<Option<Level>, Fault> {
+    match word {
+        "" => Ok(None),
+        "0" => Ok(Some(Level::Zero)),
+        "1" => Ok(Some(Level::One)),
+        _ => Err(Fault::of(alloc, &["--init: '", word, "' is neither 0 nor 1"])),
+    }
+}
+
 /// Makes the text of a netlist of cells of a library, with the text of its stimuli, if there are
 /// any.
 pub(crate) fn convert(
@@ -55,7 +65,8 @@ pub(crate) fn convert(
     text: &str,
     of_stimuli: Option<&str>,
 ) -> Result<Written, Fault> {
-    match read_netlist(alloc, text, options.top(), library, delays) {
+    let initial = read_initial(alloc, options.initial)?;
+    match read_netlist(alloc, text, options.top(), library, delays, initial) {
         Ok(netlist) => convert_annotated(alloc, options, &netlist, delays, of_stimuli),
         Err(fault) => Err(fault.about(alloc, &["the netlist"])),
     }
@@ -133,7 +144,6 @@ fn write_netlist(
         stimuli,
         delays: delays.as_slice(),
         hold,
-        has_paths: options.sdf().is_some(),
     };
     write_text(alloc, &request)
 }

@@ -25,8 +25,6 @@ pub(crate) struct Request<'a> {
     pub(crate) delays: &'a [NamedDelay],
     /// The hold time of inputs other than clocks, in femtoseconds.
     pub(crate) hold: u64,
-    /// Whether cells have the delays of their paths.
-    pub(crate) has_paths: bool,
 }
 
 /// A text, the name of its entity, its map, notes about what nothing drives and about delays without
@@ -93,6 +91,7 @@ fn push_head(text: &mut Draft, signals: &Signals) {
 /// The whole text.
 fn whole(statements: &Statements) -> Result<String, AllocError> {
     let mut text = Draft::new(statements.alloc);
+    text.push_draft(&statements.entities);
     push_head(&mut text, &statements.signals);
     text.push_draft(&statements.body);
     text.push("end;\n");
@@ -198,7 +197,7 @@ fn signals(
     let wanted = wanted_nets(alloc, uses, within)?;
     let (levels, wanted) = (levels.as_slice(), wanted.as_slice());
     let mut signals = make_signals(alloc, request.netlist, levels, wanted);
-    if request.has_paths {
+    if request.netlist.has_paths {
         begin_unknown(&mut signals, request.netlist);
     }
     Ok(signals)
@@ -246,7 +245,7 @@ fn write_with(
     uses: &Uses,
     clocks: &Clocks,
 ) -> Result<Written, Fault> {
-    let has_delays = request.has_paths || !request.delays.is_empty();
+    let has_delays = request.netlist.has_paths || !request.delays.is_empty();
     let within = all_within(alloc, request.netlist, uses, has_delays)?;
     let mut statements = cell_statements(alloc, request, uses, within.as_slice())?;
     finish(&mut statements, request, uses, clocks)

@@ -16,6 +16,8 @@ pub(crate) struct Site<'a> {
     pub(crate) library: &'a Library,
     /// The delays of a file, if there is one.
     pub(crate) delays: Option<&'a Delays>,
+    /// The level with which registers and latches begin, if it is given.
+    pub(crate) initial: Option<Level>,
 }
 
 /// The maximum number of inputs of a look-up table.
@@ -372,15 +374,19 @@ fn own_cell(
     }
 }
 
+/// Sets the level with which a register begins, if it is given.
+fn begin(site: Site<'_>, nets: &mut Nets, cell: &Cell) {
+    if let (Cell::Register(register), Some(level)) = (cell, site.initial) {
+        nets.set_initial(register.output, level);
+    }
+}
+
 /// Reads a cell of Yosys' library: one, or none if it has no effect in a simulation.
-fn own_cells(
-    alloc: Global,
-    cell: &WrittenCell,
-    nets: &mut Nets,
-    has_library: bool,
-) -> Result<Parts, Fault> {
-    let mut parts = Parts::new(alloc);
-    if let Some(cell) = own_cell(alloc, cell, nets, has_library)? {
+fn own_cells(site: Site<'_>, cell: &WrittenCell, nets: &mut Nets) -> Result<Parts, Fault> {
+    let mut parts = Parts::new(site.alloc);
+    let has_library = !site.library.is_empty();
+    if let Some(cell) = own_cell(site.alloc, cell, nets, has_library)? {
+        begin(site, nets, &cell);
         parts.put(cell, None)?;
     }
     Ok(parts)
@@ -395,6 +401,6 @@ pub(crate) fn make_cells(
 ) -> Result<Parts, Fault> {
     match site.library.find(cell.kind.as_str()) {
         Some(entry) => library_cells(site, name, cell, nets, entry),
-        None => own_cells(site.alloc, cell, nets, !site.library.is_empty()),
+        None => own_cells(site, cell, nets),
     }
 }

@@ -3,6 +3,7 @@
 
 mod document;
 mod kinds;
+mod late_inputs;
 mod library_cells;
 mod modules;
 mod nets;

@@ -21,6 +21,8 @@ struct Making<'a> {
     plain: Option<usize>,
     negated: Option<usize>,
     timed: Option<&'a Timed<'a>>,
+    /// The level with which its register begins, if it is given.
+    initial: Option<Level>,
     parts: Parts,
 }
 
@@ -383,6 +385,9 @@ impl Making<'_> {
         let Some(output) = self.net(variant) else {
             return Ok(());
         };
+        if let Some(level) = self.initial {
+            nets.set_initial(output, level_of(level, variant == Variant::Negated));
+        }
         let mut register = Register::new(style_of(state), output);
         self.fill_data(nets, state, variant, &mut register)?;
         self.fill_levels(nets, state, variant, &mut register)?;
@@ -750,12 +755,13 @@ impl Making<'_> {
 
 /// The gates and registers that make up a cell of this kind, which may have delays of a file.
 fn parts_of(
-    alloc: Global,
+    site: Site<'_>,
     cell: &WrittenCell,
     nets: &mut Nets,
     model: &LibraryCell,
     timed: Option<&Timed<'_>>,
 ) -> Result<Parts, Fault> {
+    let alloc = site.alloc;
     let bits = connections(alloc, nets, model, cell)?;
     let mut making = Making {
         alloc,
@@ -764,6 +770,7 @@ fn parts_of(
         plain: None,
         negated: None,
         timed,
+        initial: site.initial,
         parts: Parts::new(alloc),
     };
     making.put_all(nets)?;
@@ -779,10 +786,10 @@ fn timed_parts_of(
     model: &LibraryCell,
 ) -> Result<Parts, Fault> {
     let Some(delays) = site.delays else {
-        return parts_of(site.alloc, cell, nets, model, None);
+        return parts_of(site, cell, nets, model, None);
     };
     let timed = Timed::new(site.alloc, delays, name, cell.kind.as_str())?;
-    parts_of(site.alloc, cell, nets, model, Some(&timed))
+    parts_of(site, cell, nets, model, Some(&timed))
 }
 
 /// The gates and registers that make up a cell of a library.

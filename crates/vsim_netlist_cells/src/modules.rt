@@ -2,11 +2,12 @@
 
 use crate::document::{Document, Members, Module, WrittenCell, WrittenName, WrittenPort};
 use crate::kinds::{Site, make_cells};
-use crate::library_cells::{Parts, buffer};
+use crate::late_inputs::read_inputs_late;
+use crate::library_cells::Parts;
 use crate::nets::Nets;
 use indexmap::IndexSet;
 use std::alloc::{AllocError, Global};
-use vsim_netlist_design::{Bit, Delays, Draft, Fault, Library, Netlist, Port, Variable, push};
+use vsim_netlist_design::{Delays, Draft, Fault, Level, Library, Netlist, Port, Variable, push};
 
 /// Whether a module is marked as the top.
 fn is_top(module: &Module) -> bool {
@@ -307,73 +308,16 @@ fn put_variables(
     put_each_variable(alloc, nets, &mut netlist.variables, &escaped, written)
 }
 
-/// The bits of an input whose nets follow others a delta cycle later.
-fn delayed_bits(
-    alloc: Global,
-    nets: &mut Nets,
-    parts: &mut Parts,
-    bits: &[Bit],
-) -> Result<Vec<Bit>, AllocError> {
-    let mut before = Vec::new(alloc);
-    for bit in bits {
-        push(&mut before, delayed_bit(alloc, nets, parts, *bit)?)?;
-    }
-    Ok(before)
-}
-
-/// The bit that a net follows a delta cycle later.
-fn delayed_bit(
-    alloc: Global,
-    nets: &mut Nets,
-    parts: &mut Parts,
-    bit: Bit,
-) -> Result<Bit, AllocError> {
-    let Bit::Net(net) = bit else {
-        return Ok(bit);
-    };
-    let before = nets.add()?;
-    parts.put(buffer(alloc, before, net)?, None)?;
-    Ok(Bit::Net(before))
-}
-
-/// Lets the nets of inputs follow others a delta cycle later. So they change at time 0, where they
-/// have their first values, and paths have their delays.
-fn delay_inputs(
-    alloc: Global,
-    nets: &mut Nets,
-    ports: &mut Vec<Port>,
-    parts: &mut Parts,
-) -> Result<(), AllocError> {
-    for port in ports.iter_mut() {
-        if port.is_input {
-            port.bits = delayed_bits(alloc, nets, parts, port.bits.as_slice())?;
-        }
-    }
-    Ok(())
-}
-
-/// Adds the ports of a module, with what is before their nets if cells have delays of a file.
-fn put_all_ports(
-    site: Site<'_>,
-    nets: &mut Nets,
-    netlist: &mut Netlist,
-    module: &Module,
-) -> Result<(), Fault> {
-    let alloc = site.alloc;
-    put_ports(alloc, nets, &mut netlist.ports, &module.ports)?;
+/// Lets registers read inputs a delta cycle later, if cells have delays of a file.
+fn put_late_inputs(site: Site<'_>, nets: &mut Nets, netlist: &mut Netlist) -> Result<(), Fault> {
     if site.delays.is_none() {
         return Ok(());
     }
-    let mut parts = Parts::new(alloc);
-    delay_inputs(alloc, nets, &mut netlist.ports, &mut parts)?;
-    put_inputs(alloc, netlist, &mut parts)
-}
-
-/// Adds the buffers of inputs.
-fn put_inputs(alloc: Global, netlist: &mut Netlist, parts: &mut Parts) -> Result<(), Fault> {
-    let origin = String::from_str(alloc, "an input")?;
+    let mut parts = Parts::new(site.alloc);
+    read_inputs_late(site.alloc, nets, netlist, &mut parts)?;
+    let origin = String::from_str(site.alloc, "an input")?;
     put_origins(&mut netlist.origins, &origin, parts.cells.len())?;
-    Ok(append(netlist, parts)?)
+    Ok(append(netlist, &mut parts)?)
 }
 
 /// Adds the ports, cells and names of a module.
@@ -384,7 +328,7 @@ fn put_parts(
     module: &Module,
 ) -> Result<(), Fault> {
     let alloc = site.alloc;
-    put_all_ports(site, nets, netlist, module)?;
+    put_ports(alloc, nets, &mut netlist.ports, &module.ports)?;
     put_cells(site, nets, netlist, &module.cells)?;
     Ok(put_variables(alloc, nets, netlist, &module.netnames)?)
 }
@@ -393,6 +337,7 @@ fn put_parts(
 fn put_module(site: Site<'_>, netlist: &mut Netlist, module: &Module) -> Result<(), Fault> {
     let mut nets = Nets::new(site.alloc);
     put_parts(site, &mut nets, netlist, module)?;
+    put_late_inputs(site, &mut nets, netlist)?;
     netlist.nets = nets.nets;
     Ok(())
 }
@@ -414,6 +359,7 @@ fn make_netlist(site: Site<'_>, name: &str, module: &Module) -> Result<Netlist, 
         ports: Vec::new(alloc),
         cells: Vec::new(alloc),
         origins: Vec::new(alloc),
+        has_paths: site.delays.is_some(),
         timings: Vec::new(alloc),
         instances: vec![in alloc; false; count_instances(site)]?,
         variables: Vec::new(alloc),
@@ -462,19 +408,23 @@ fn read_document(alloc: Global, text: &str) -> Result<Document, Fault> {
 }
 
 /// Reads the netlist of the module with this name, or of the one marked as the top. Its cells are
-/// those of Yosys, and those of this library, which may have the delays of a file.
+/// those of Yosys, and those of this library, which may have the delays of a file. Registers and
+/// latches begin with this level, unless the netlist says with which, or if there is none as the
+/// text begins them.
 pub fn read_netlist(
     alloc: Global,
     text: &str,
     top: Option<&str>,
     library: &Library,
     delays: Option<&Delays>,
+    initial: Option<Level>,
 ) -> Result<Netlist, Fault> {
     let document = read_document(alloc, text)?;
     let site = Site {
         alloc,
         library,
         delays,
+        initial,
     };
     wanted_netlist(site, &document, top)
 }

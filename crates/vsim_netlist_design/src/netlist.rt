@@ -45,7 +45,9 @@ pub struct Netlist {
     pub cells: Vec<Cell>,
     /// For each cell its name, after its place in the source if that is known.
     pub origins: Vec<String>,
-    /// For each cell its delays, if a file has them.
+    /// Whether a file has delays of paths.
+    pub has_paths: bool,
+    /// For each cell its delays, if that file has them.
     pub timings: Vec<Option<Timing>>,
     /// For each instance of which a file has delays, whether there is a cell with its name.
     pub instances: Vec<bool>,

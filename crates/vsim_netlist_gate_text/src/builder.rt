@@ -1,13 +1,14 @@
 //! The gates and registers of a netlist as statements.
 
 use crate::processes::{Conditions, Process};
-use crate::timed::{computation, enabled_computation, put_timed};
+use crate::timed::{computation, enabled_computation, timed};
 use indexmap::IndexSet;
 use std::alloc::{AllocError, Global};
 use vsim_netlist_design::{
     Bit, Cell, Conflict, Control, Draft, Gate, GateCell, Level, Netlist, Register, Style, Timing,
     push,
 };
+use vsim_netlist_entities::{TimedProcess, put_processes};
 use vsim_netlist_signals::{
     Delay, Expression, NamedDelay, Statements, delay_of, function_expression, gate_expression,
     literal, named, push_assignment, push_literal, push_stored, push_tristate,
@@ -29,6 +30,8 @@ struct Builder<'a> {
     expressions: Vec<Option<Expression>>,
     keys: IndexSet<String>,
     groups: Vec<Process>,
+    /// The processes with delays of paths.
+    timed: Vec<TimedProcess>,
 }
 
 impl Drop for Builder<'_> {
@@ -217,6 +220,7 @@ impl<'a> Builder<'a> {
             expressions,
             keys: IndexSet::new(alloc),
             groups: Vec::new(alloc),
+            timed: Vec::new(alloc),
         })
     }
 
@@ -232,6 +236,7 @@ impl<'a> Builder<'a> {
             expressions: _expressions,
             keys: _keys,
             groups: _groups,
+            timed: _timed,
         } = self;
         statements
     }
@@ -397,11 +402,23 @@ impl<'a> Builder<'a> {
         Ok(enabled_computation(alloc, &value, enable, !gate.is_low))
     }
 
+    /// Adds the process of a net whose new value these statements compute.
+    fn put_timed(
+        &mut self,
+        place: usize,
+        timing: &Timing,
+        computed: &Draft,
+        initial: Option<Level>,
+    ) -> Result<(), AllocError> {
+        let process = timed(&mut self.statements, place, timing, computed, initial)?;
+        push(&mut self.timed, process)
+    }
+
     /// Adds a gate with the delays of its paths.
     fn take_timed_gate(&mut self, gate: &GateCell, timing: &Timing) -> Result<(), AllocError> {
         if gate.gate == Gate::Tristate {
             let (computed, first) = (self.enabled(gate)?, Some(Level::Unknown));
-            return put_timed(&mut self.statements, gate.output, timing, &computed, first);
+            return self.put_timed(gate.output, timing, &computed, first);
         }
         let expression = self.expression(gate)?;
         if let Some(delay) = timing.only() {
@@ -415,7 +432,7 @@ impl<'a> Builder<'a> {
             return Ok(());
         }
         let computed = computation(self.alloc, &expression);
-        put_timed(&mut self.statements, gate.output, timing, &computed, None)
+        self.put_timed(gate.output, timing, &computed, None)
     }
 
     /// The statements that compute the new value of a register.
@@ -442,13 +459,7 @@ impl<'a> Builder<'a> {
             Some(net) => net.initial,
             None => None,
         };
-        put_timed(
-            &mut self.statements,
-            register.output,
-            timing,
-            &computed,
-            initial,
-        )
+        self.put_timed(register.output, timing, &computed, initial)
     }
 
     /// Adds a cell with the delays of its paths.
@@ -492,10 +503,11 @@ impl<'a> Builder<'a> {
     }
 
     /// Writes the processes.
-    fn put_processes(&mut self) {
+    fn put_processes(&mut self) -> Result<(), AllocError> {
         for process in self.groups.iter() {
             process.push(self.alloc, &mut self.statements.body);
         }
+        put_processes(&mut self.statements, self.timed.as_slice())
     }
 }
 
@@ -589,6 +601,6 @@ pub fn put_cells(
 ) -> Result<Statements, AllocError> {
     let mut builder = Builder::new(statements, netlist, delays, uses, within)?;
     builder.take_cells()?;
-    builder.put_processes();
+    builder.put_processes()?;
     Ok(builder.into_statements())
 }

@@ -3,6 +3,7 @@
 use crate::ladders::{TestedPath, choice, tested};
 use std::alloc::{AllocError, Global};
 use vsim_netlist_design::{Bit, Draft, Level, PathCondition, Timing, push};
+use vsim_netlist_entities::TimedProcess;
 use vsim_netlist_signals::{Expression, Statements, function_expression, named};
 
 /// The operands of a condition. A constant is a signal.
@@ -69,9 +70,9 @@ fn assignment(
     choice(statements.alloc, target, paths.as_slice(), is_tristate)
 }
 
-/// Adds a process that computes the new value of a net by these statements.
-fn push_process(text: &mut Draft, computed: &Draft, assigned: &Draft, initial: Option<Level>) {
-    text.push("process(all)variable v,n:std_logic");
+/// A process that computes the new value of a net by these statements.
+fn process(alloc: Global, computed: &Draft, assigned: &Draft, initial: Option<Level>) -> Draft {
+    let mut text = Draft::of(alloc, "process(all)variable v,n:std_logic");
     if let Some(level) = initial {
         text.push_all(&[":=", level.literal()]);
     }
@@ -80,23 +81,26 @@ fn push_process(text: &mut Draft, computed: &Draft, assigned: &Draft, initial: O
     text.push("if n/=v then ");
     text.push_draft(assigned);
     text.push("v:=n;end if;end process;\n");
+    text
 }
 
-/// Writes the process of a net whose new value these statements compute. One that may be high
-/// impedance is unknown at first.
-pub(crate) fn put_timed(
+/// The process of a net whose new value these statements compute. One that may be high impedance is
+/// unknown at first.
+pub(crate) fn timed(
     statements: &mut Statements,
     place: usize,
     timing: &Timing,
     computed: &Draft,
     initial: Option<Level>,
-) -> Result<(), AllocError> {
+) -> Result<TimedProcess, AllocError> {
     statements.ensure(place);
     let is_tristate = initial == Some(Level::Unknown);
     let assigned = assignment(statements, place, timing, is_tristate)?;
     statements.count();
-    push_process(&mut statements.body, computed, &assigned, initial);
-    Ok(())
+    Ok(TimedProcess {
+        text: process(statements.alloc, computed, &assigned, initial),
+        output: place,
+    })
 }
 
 /// The computation of a new value.

@@ -181,15 +181,19 @@ struct Manner<'a> {
     end: u64,
     /// The signal that stops the clocks, if there are any.
     running: Option<usize>,
-    /// Whether inputs may be in tables. Otherwise all that change at one time do so in one cycle,
-    /// so that a gate sees which of its inputs changed last.
-    has_tables: bool,
+    /// Whether cells have the delays of paths. Then inputs are unknown until they have their first
+    /// values in the second cycle of time 0, and all that change at one time do so in one cycle, so
+    /// that a cell sees which of its inputs changed last. None are in tables.
+    has_paths: bool,
 }
 
 /// Adds an element of a waveform and what is before it. Its value is a signal that always has it, if
 /// that is shorter, which it is not where it takes blanks on both sides.
 fn push_element(text: &mut Draft, signals: &Signals, before: &str, change: &Change, later: u64) {
     text.push(before);
+    if change.time == 0 {
+        return text.push(change.level.literal());
+    }
     match signals.short_constant(change.level) {
         Some(name) if before != TRANSPORT => text.push_all(&[name, " after "]),
         _ => text.push_all(&[change.level.literal(), "after "]),
@@ -241,10 +245,16 @@ fn begin<'a>(statements: &mut Statements, net: &Driven<'a>) -> &'a [Change] {
     later_changes(net.changes)
 }
 
+/// Adds a clock that is inverted after half its period, until a signal falls.
+fn push_inverted(text: &mut Draft, clock: &str, running: &str, half: u64) {
+    text.push_all(&[clock, " xor ", running, " after "]);
+    push_time(text, half);
+}
+
 /// Adds the inversion of a clock after half its period, until a signal falls.
 fn push_inversion(text: &mut Draft, clock: &str, running: &str, half: u64) {
-    text.push_all(&[clock, "<=", clock, " xor ", running, " after "]);
-    push_time(text, half);
+    text.push_all(&[clock, "<="]);
+    push_inverted(text, clock, running, half);
 }
 
 /// Writes the signal that rises with the first edge of a clock.
@@ -271,6 +281,38 @@ fn put_start(statements: &mut Statements, once: &mut Draft, first: Level, start:
     };
     let (signals, text) = (&statements.signals, &mut statements.body);
     push_element(text, signals, "='1'else ", &change, 0);
+}
+
+/// Writes a clock that is unknown until it has its first value, and stops when a signal falls, which
+/// is not known at first either.
+fn put_clock_from_unknown(
+    statements: &mut Statements,
+    once: &mut Draft,
+    net: &Driven<'_>,
+    edges: Edges,
+    running: usize,
+) {
+    statements.signals.ensure(net.place);
+    statements.count();
+    let Some(first) = net.changes.first() else {
+        return;
+    };
+    push_first(statements, net.place, first.level, running);
+    let (signals, text) = (&statements.signals, &mut statements.body);
+    let (clock, running) = (signals.text(net.place), signals.text(running));
+    push_inverted(text, clock, running, edges.half);
+    if edges.start != edges.half {
+        put_start(statements, once, first.level, edges.start);
+    }
+    statements.body.push(";\n");
+}
+
+/// Adds the beginning of the assignment of a clock: its first value, before a signal is known.
+fn push_first(statements: &mut Statements, clock: usize, first: Level, running: usize) {
+    let (signals, text) = (&statements.signals, &mut statements.body);
+    let literal = first.literal();
+    text.push_all(&[signals.text(clock), "<=", literal, "when "]);
+    text.push_all(&[signals.text(running), "='U'else "]);
 }
 
 /// Writes a clock that stops when a signal falls.
@@ -320,6 +362,23 @@ fn put_relay(statements: &mut Statements, net: &Driven<'_>) -> usize {
     let relay = statements.signals.add(initial(net));
     put_copy(statements, relay, net.place);
     relay
+}
+
+/// Writes the changes of an input other than a clock of constant period, from its first value on.
+fn put_all_changes(
+    statements: &mut Statements,
+    once: &mut Draft,
+    net: &Driven<'_>,
+    is_clock: bool,
+    hold: u64,
+) {
+    statements.signals.ensure(net.place);
+    if net.changes.is_empty() {
+        return;
+    }
+    statements.count_driver();
+    let later = if is_clock { 0 } else { hold };
+    push_changes(once, &statements.signals, net.place, net.changes, later);
 }
 
 /// Writes the changes of an input other than a clock of constant period.
@@ -475,7 +534,7 @@ fn tables(
     nets: &[Driven<'_>],
     manner: Manner<'_>,
 ) -> Result<Vec<Tables>, AllocError> {
-    if !manner.has_tables {
+    if manner.has_paths {
         return Ok(Vec::new(statements.alloc));
     }
     let inputs = table_inputs(statements.alloc, nets, manner.clocks)?;
@@ -581,7 +640,11 @@ fn put_input(
             return put_in_table(statements, &mut tables[place], net);
         }
     }
-    put_changes(statements, once, net, is_clock, manner.hold);
+    if manner.has_paths {
+        put_all_changes(statements, once, net, is_clock, manner.hold);
+    } else {
+        put_changes(statements, once, net, is_clock, manner.hold);
+    }
     Ok(())
 }
 
@@ -593,13 +656,15 @@ fn put_net(
     manner: Manner<'_>,
     tables: &mut [Tables],
 ) -> Result<(), AllocError> {
-    match (net.edges, manner.running) {
-        (Some(edges), Some(running)) => {
-            put_clock(statements, once, net, edges, running);
-            Ok(())
-        }
-        _ => put_input(statements, once, net, manner, tables),
+    let (Some(edges), Some(running)) = (net.edges, manner.running) else {
+        return put_input(statements, once, net, manner, tables);
+    };
+    if manner.has_paths {
+        put_clock_from_unknown(statements, once, net, edges, running);
+    } else {
+        put_clock(statements, once, net, edges, running);
     }
+    Ok(())
 }
 
 /// Writes the drivers of the inputs, except the tables.
@@ -651,30 +716,49 @@ fn put_once(statements: &mut Statements, once: &Draft) {
     push_once(text, signals.text(never), once);
 }
 
+/// The change of the signal that stops the clocks.
+fn stop_at(end: u64) -> Change {
+    Change {
+        time: end,
+        level: Level::Zero,
+    }
+}
+
 /// The signal that stops the clocks at a time.
 fn put_run(statements: &mut Statements, once: &mut Draft, end: u64) -> usize {
     let running = statements.signals.add(Some(Level::One));
     statements.count_driver();
-    let stop = Change {
-        time: end,
-        level: Level::Zero,
-    };
-    push_changes(once, &statements.signals, running, &[stop], 0);
+    push_changes(once, &statements.signals, running, &[stop_at(end)], 0);
     running
 }
 
-/// The signal that stops the clocks at a time, if there are any.
+/// The same, which is not known at first.
+fn put_run_from_unknown(statements: &mut Statements, once: &mut Draft, end: u64) -> usize {
+    let running = statements.signals.add(None);
+    statements.count_driver();
+    let start = Change {
+        time: 0,
+        level: Level::One,
+    };
+    let changes = [start, stop_at(end)];
+    push_changes(once, &statements.signals, running, &changes, 0);
+    running
+}
+
+/// The signal that stops the clocks at the time of their last change, if there are any.
 fn put_running(
     statements: &mut Statements,
     once: &mut Draft,
     nets: &[Driven<'_>],
-    end: u64,
+    manner: Manner<'_>,
 ) -> Option<usize> {
-    if has_clock(nets) {
-        Some(put_run(statements, once, end))
-    } else {
-        None
+    if !has_clock(nets) {
+        return None;
     }
+    if manner.has_paths {
+        return Some(put_run_from_unknown(statements, once, manner.end));
+    }
+    Some(put_run(statements, once, manner.end))
 }
 
 /// Whether any net is a clock.
@@ -749,13 +833,12 @@ pub fn put_stimuli(
 ) -> Result<(), AllocError> {
     let nets = prepared(statements.alloc, netlist, stimuli)?;
     let end = last_edge(nets.as_slice());
-    let has_tables = netlist.instances.is_empty();
     let manner = Manner {
         clocks,
         hold,
         end,
         running: None,
-        has_tables,
+        has_paths: netlist.has_paths,
     };
     put_driven(statements, nets.as_slice(), manner)
 }
@@ -767,7 +850,7 @@ fn put_driven(
     manner: Manner<'_>,
 ) -> Result<(), AllocError> {
     let mut once = Draft::new(statements.alloc);
-    let running = put_running(statements, &mut once, nets, manner.end);
+    let running = put_running(statements, &mut once, nets, manner);
     let manner = Manner { running, ..manner };
     put_inputs(statements, &mut once, nets, manner)?;
     put_once(statements, &once);
