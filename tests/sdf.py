@@ -7,22 +7,30 @@ Netlists of one or two cells, each with a rule of the format or of IEEE 1364's m
 rules; files with a fault, each refused by a sentence; what has no effect, told in one line; and a file with one token changed or removed,
 DAMAGED times (1,000 if it is not given), which end in a text that VSIM reads, or in a refusal, within 1 s.
 
+Then each cell of netlists/cells.lib, and of osu018, osu035 and osu050 where Debian's packages qflow-tech-osu018 and so on are installed, with
+delays at random and inputs that change at random, several at once and sooner than cells follow: alone, and in netlists at random. Every change
+of every output is to be that of sdf_reference.py, which knows the rules and nothing of VSIM_NETLIST.
+
 What differs is told, and the last line is `N passed, M failed`.
 """
+import json
 import os
 import random
 import re
 import sys
-import tempfile
 import time
 
 sys.path.insert(0, os.path.dirname(os.path.realpath(__file__)))
-from netlist_texts import cell, demand, netlist, put_stimuli, run, tally  # noqa: E402
+from cell_files import are_read_or_refused, demand_listed, listing_of, main, put  # noqa: E402
+from liberty import CELLS, OTHERS, instances, letter, names_in, read_cells  # noqa: E402
+from netlist_texts import cell, demand, is_refused, netlist, run  # noqa: E402
+from sdf_reference import Simulation, TimedCell  # noqa: E402
 
-DAMAGED = 1000
 SECONDS = 1
-# the most bytes of a cell of two inputs
-BYTES = 250
+# the most bytes of a cell of two inputs, alone and where many have the same delays
+BYTES, SHARED = 250, 60
+# how often the inputs of cells change at random, and how many cells a netlist at random has
+CHANGES, CELL_COUNT = 1200, 60
 
 LIBRARY = """library (l) {
 cell (BUF) { pin (A) { direction : input; } pin (Y) { direction : output; function : "A"; } }
@@ -77,6 +85,9 @@ OR_PATHS = "(IOPATH A Y (9) (8)) (IOPATH B Y (5) (4))"
 TRIPLES = one("BUF", "(IOPATH A Y (1:2:3) (4:5:6))")
 UP_DOWN = ZERO + "100ps a 1\n200ps a 0\n"
 UP_DOWN_TWICE = UP_DOWN + "300ps b 1\n400ps a 1\n500ps a 0\n"
+PERIODS = "0 a 0\n0 b 0\n100ps b 1\n200ps b 0\n300ps b 1\n400ps b 0\n500ps b 1\n"
+CLOCKED = netlist({"u": cell("AND2", {"A": A, "B": B, "Y": Y}), "v": cell("DFF", {"D": A, "CK": B, "Q": [9]})}, **PORTS)
+BOTH_PATHS = file_of(of("AND2", "u", "(IOPATH A Y (9)) (IOPATH B Y (5))"), of("DFF", "v", "(IOPATH CK Q (20))"))
 WIRES = "0 X, 19000 0, 118000 1, 219000 0"
 BUFFERS = [of("BUF", "u", "(IOPATH A Y (10))"), of("BUF", "v", "(IOPATH A Y (5))")]
 
@@ -159,17 +170,41 @@ LISTED = [
      "0 a 1\n0 b 0\n50ps a 0\n100ps b 1\n200ps a 1\n", [], "0 X, 8000 0, 110000 1, 208000 0"),
     ("a latch", gate("LATCH", D=A, G=B, Q=Y), one("LATCH", "(IOPATH D Q (10) (11)) (IOPATH G Q (20) (21))"),
      "0 a 0\n0 b 1\n100ps a 1\n150ps b 0\n200ps a 0\n300ps b 1\n", [], "0 X, 11000 0, 110000 1, 321000 0"),
+    # b is a clock, too
+    ("a clock and another input at once", CLOCKED, BOTH_PATHS, ZERO + "100ps a 1\n100ps b 1\n200ps a 0\n200ps b 0\n", [],
+     "0 X, 5000 0, 105000 1, 205000 0"),
+    ("a clock of constant period and another input at once", CLOCKED, BOTH_PATHS,
+     ZERO + "100ps a 1\n100ps b 1\n200ps a 0\n200ps b 0\n300ps a 1\n300ps b 1\n400ps b 0\n500ps b 1\n", [],
+     "0 X, 5000 0, 105000 1, 205000 0, 305000 1, 405000 0, 505000 1"),
+    ("a clock", gate("BUF", A=B, Y=Y), one("BUF", "(IOPATH A Y (10))"), PERIODS, [],
+     "0 X, 10000 0, 110000 1, 210000 0, 310000 1, 410000 0, 510000 1"),
+    ("a clock that does not start after half its period", gate("BUF", A=B, Y=Y), one("BUF", "(IOPATH A Y (10))"),
+     "0 a 0\n0 b 1\n30ps b 0\n130ps b 1\n230ps b 0\n330ps b 1\n430ps b 0\n", [],
+     "0 X, 10000 1, 40000 0, 140000 1, 240000 0, 340000 1, 440000 0"),
+    ("data that change with the clock", gate("DFF", D=A, CK=B, Q=Y), one("DFF", "(IOPATH (posedge CK) Q (10) (12))"),
+     ZERO + "100ps a 1\n100ps b 1\n200ps b 0\n300ps a 0\n300ps b 1\n", [], "0 X, 112000 0, 310000 1"),
+    ("an enable that changes with the clock", gate("$_DFFE_PP_", D=["1"], E=A, C=B, Q=Y), file_of(),
+     ZERO + "100ps a 1\n100ps b 1\n200ps b 0\n300ps a 0\n300ps b 1\n", ["--delays", "dff=10ps"], "0 X, 310000 1"),
+    ("a reset that changes with the clock", gate("DFFR", D=["1"], CK=B, R=A, Q=Y), one("DFFR", "(IOPATH CK Q (10) (12)) (IOPATH R Q (9) (8))"),
+     ZERO + "100ps a 1\n100ps b 1\n200ps a 0\n200ps b 0\n300ps b 1\n", [], "0 X, 108000 0, 310000 1"),
+    ("a latch that closes and opens as its input changes", gate("LATCH", D=A, G=B, Q=Y), one("LATCH", "(IOPATH D Q (10) (11)) (IOPATH G Q (20) (21))"),
+     "0 a 0\n0 b 1\n100ps a 1\n100ps b 0\n200ps a 0\n300ps a 1\n300ps b 1\n", [], "0 X, 11000 0, 310000 1"),
+    ("a hold time", BUF, one("BUF", "(IOPATH A Y (10))"), ZERO + "100ps a 1\n", ["--hold", "7ps"], "0 X, 10000 0, 117000 1"),
+    ("registers that begin with 0", gate("DFF", D=A, CK=B, Q=Y), one("DFF", "(IOPATH CK Q (10) (12))"), "0 a 1\n0 b 0\n100ps b 1\n",
+     ["--init", "0"], "0 0, 110000 1"),
+    ("registers that begin with 1, negated", gate("DFF", D=A, CK=B, QN=Y), one("DFF", "(IOPATH CK Q (1)) (IOPATH CK QN (10) (12))"),
+     ZERO + "100ps b 1\n", ["--init", "1"], "0 0, 110000 1"),
+    ("latches that begin with 1", gate("LATCH", D=A, G=B, Q=Y), one("LATCH", "(IOPATH D Q (10) (11)) (IOPATH G Q (20) (21))"),
+     ZERO + "100ps b 1\n", ["--init", "1"], "0 1, 121000 0"),
+    ("equal cells", netlist({f"u{it}": cell("BUF", {"A": [9 + it] if it else A, "Y": [10 + it] if it < 19 else Y}) for it in range(20)}, **PORTS),
+     file_of(of("BUF", "*", "(IOPATH A Y (5) (6))")), UP_DOWN, [], "0 X, 120000 0, 200000 1, 320000 0"),
+    ("equal cells that read their own outputs", netlist({"u": cell("OR2", {"A": A, "B": Y, "Y": Y}), "v": cell("OR2", {"A": B, "B": [9], "Y": [9]}),
+     "w": cell("OR2", {"A": B, "B": [10], "Y": [10]})}, **PORTS), file_of(of("OR2", "*", "(IOPATH A Y (5) (6)) (IOPATH B Y (7))")), UP_DOWN, [],
+     "0 X, 105000 1"),
     ("a cell without inputs", gate("TIE1", Y=Y), file_of(), ZERO + "1ns a 1\n", [], "0 X, 0 1"),
     ("a cell of Yosys beside it", netlist({"u": CHAIN["u"], "v": cell("$_NOT_", {"A": [9], "Y": Y})}, **PORTS), one("BUF", "(IOPATH A Y (6))"),
      UP_DOWN, ["--delays", "not=3ps"], "0 X, 9000 1, 109000 0, 209000 1"),
 ]
-
-
-def put(folder, name, text):
-    path = f"{folder}/{name}"
-    with open(path, "w", encoding="utf-8") as file:
-        file.write(text)
-    return path
 
 
 def words_of(folder, text):
@@ -178,14 +213,8 @@ def words_of(folder, text):
 
 def is_listed(programs, folder, given, text, stimuli, words, wanted):
     """Demands that the listing of a netlist with the delays of a file has these values of y."""
-    words = [*words_of(folder, text), *put_stimuli(folder, stimuli), *words]
-    status, made, said = run([programs[1], *words], given.encode())
-    demand(status == 0, said)
-    status, listing, said = run([programs[0], "--top", "top"], made)
-    demand(status == 0, f"vsim: {said} for {made.decode()}")
-    lines = [line.split() for line in listing.decode().splitlines()]
-    found = ", ".join(f"{it[0]} {it[3]}" for it in lines if len(it) == 4 and it[2] == "y")
-    demand(found == wanted, f"y is {found} in place of {wanted}")
+    library, *words = [*words_of(folder, text)[1:], *words]
+    demand_listed(listing_of(programs, folder, library, given, stimuli, words), wanted)
 
 
 PATHS = "(IOPATH A Y (1))"
@@ -232,15 +261,9 @@ REFUSED = [
     (OR, one("OR2", "(COND C (IOPATH A Y (1)))"), [], "cell u of type OR2: the SDF file has a delay of its pin C, which is not there"),
     (BUF, file_of(), [], "the netlist: cell u of type BUF: the SDF file has no path to its output Y"),
     (gate("DFFI", D=A, CK=B, Q=Y), one("DFFI", "(IOPATH CK Q (1))"), [], "cell u of type DFFI: a register whose output or control is a formula"),
+    (BUF, one("BUF", PATHS), ["--init", "x"], "--init: 'x' is neither 0 nor 1"),
     (BUF, one("BUF", PATHS), ["--corner", "best"], "--corner: 'best' is none of min, typ and max"),
 ]
-
-
-def is_refused(program, folder, given, text, words, told):
-    """Demands that a file is refused by a sentence."""
-    status, out, said = run([program, *words_of(folder, text), *words], given.encode())
-    demand(status == 1 and not out, f"status {status}: {said}")
-    demand(said.startswith("vsim_netlist: ") and told in said and said.count("\n") == 1, said)
 
 
 CHECKS = """(TIMINGCHECK (SETUP A (posedge B) (1)) (HOLD A (posedge B) (1)) (HOLD (negedge A) (COND A (posedge B)) (1)))
@@ -257,15 +280,22 @@ def is_noted(programs, folder):
     demand(said == wanted, said)
 
 
-def are_short(programs, folder):
-    """Demands that a cell of two inputs with its paths takes few bytes."""
+def bytes_of(programs, folder, delays):
+    """Returns the bytes of each of 500 cells of two inputs, whose delays are those of the number of the cell."""
     count = 500
     cells = {f"u{it}": cell("OR2", {"A": [100 + it], "B": [101 + it], "Y": [102 + it]}) for it in range(count)}
-    text = file_of(*(of("OR2", f"u{it}", f"(IOPATH A Y ({it}) ({it + 3})) (IOPATH B Y ({it + 2}) ({it + 4}))") for it in range(count)))
+    text = file_of(*(of("OR2", f"u{it}", "(IOPATH A Y ({}) ({})) (IOPATH B Y ({}) ({}))".format(*delays(it))) for it in range(count)))
     status, made, said = run([programs[1], *words_of(folder, text)], netlist(cells, **PORTS).encode())
     demand(status == 0, said)
-    demand(len(made) <= BYTES * count, f"{len(made) / count} bytes for a cell")
-    return f"{len(made) / count:.0f} bytes for a cell"
+    return len(made) / count
+
+
+def are_short(programs, folder):
+    """Demands that a cell of two inputs with its paths takes few bytes, and fewer where many are equal."""
+    alone = bytes_of(programs, folder, lambda it: (it, it + 3, it + 2, it + 4))
+    shared = bytes_of(programs, folder, lambda it: (it % 9, it % 9 + 3, it % 9 + 2, it % 9 + 4))
+    demand(alone <= BYTES and shared <= SHARED, f"{alone} and {shared} bytes for a cell")
+    return f"{alone:.0f} bytes for a cell, {shared:.0f} where many are equal"
 
 
 def is_linear(programs, folder):
@@ -289,40 +319,121 @@ def are_damaged(programs, folder, count):
                     of("TBUF", "v", "(IOPATH A Y (1) (2) (3))", "(DEVICE Y (0.1))")[:-1] + CHECKS + ")", of("BUF", "*", "(PORT A (2))", mode="INCREMENT"))
     given = netlist({"u": cell("XOR2", {"A": A, "B": B, "Y": [9]}), "v": cell("TBUF", {"A": [9], "EN": B, "Y": Y})}, **PORTS).encode()
     tokens = re.findall(r'"[^"]*"|[^\s()"]+|[()"]|\s+', whole)
-    chance, texts = random.Random(12), 0
-    for number in range(count):
-        place = chance.randrange(len(tokens))
-        others = ["", "", "(", ")", '"', "\\", "/*", "//", "A", "u", "*", "IOPATH", "(1)", "1e9", "-5", "::", "DELAY", "&&", chance.choice(tokens)]
-        text = "".join([*tokens[:place], chance.choice(others), *tokens[place + 1:]])
-        status, out, said = run([programs[1], *words_of(folder, text)], given, SECONDS)
-        demand(status in (0, 1), f"status {status} for damage {number}: {said}")
-        if status == 1:
-            demand(said.startswith("vsim_netlist: ") and said.count("\n") == 1 and not out, f"damage {number}: {said}")
-        elif number % 5 == 0:
-            texts += 1
-            status, _, said = run([programs[0], "--top", "top"], out, SECONDS)
-            demand(status == 0, f"damage {number}: vsim: {said}")
-    demand(count < 100 or texts > 2, f"{texts} texts")
+    signs = ["", "", "(", ")", '"', "\\", "/*", "//", "A", "u", "*", "IOPATH", "(1)", "1e9", "-5", "::", "DELAY", "&&"]
+    are_read_or_refused(programs, given, tokens, signs, lambda text: words_of(folder, text), SECONDS, count)
+
+
+# ------------------------------------------------------------------------------------------- beside the reference
+def has_paths(kind):
+    """Says whether a cell may have delays, and does not read a register's output itself."""
+    if not kind.state:
+        return True
+    variables, controls = set(kind.state[1]), [kind.parts[it].tree for it in ("clocked_on", "enable", "clear", "preset") if it in kind.parts]
+    data = [kind.parts[it].tree for it in ("next_state", "data_in") if it in kind.parts]
+    are_variables = all(function and function.tree in variables and not off for function, off in kind.outputs.values())
+    are_plain = all(isinstance(it, str) or it[0] == "not" and isinstance(it[1], str) for it in controls + (data if kind.state[0] == "latch" else []))
+    return are_variables and are_plain and data and not any(names_in(it) & variables for it in data)
+
+
+def paths_of(chance, kind):
+    """Returns delays at random of each path of a cell, in picoseconds, as {output: {input: (rise, fall)}}."""
+    def times():
+        rise, fall = chance.randrange(3, 60), chance.randrange(3, 60)
+        return chance.choice([(rise, fall)] * 6 + [(rise, rise), (None, fall), (rise, None), (rise, fall, chance.randrange(3, 60))])
+    return {output: {it: times() for it in kind.inputs} for output in kind.outputs}
+
+
+def written(name, kind, paths):
+    """Returns the part of a file that has these delays."""
+    return of(kind.name, name, *(f"(IOPATH {source} {output} " + " ".join("()" if it is None else f"({it})" for it in times) + ")"
+                                 for output, each in paths.items() for source, times in each.items()))
+
+
+def stimuli_at_random(chance, width):
+    """Returns changes of inputs, as [(time in femtoseconds, {number: letter})], of which few are to x."""
+    time, levels, found = 0, ["0"] * width, [(0, dict.fromkeys(range(width), "0"))]
+    for _ in range(CHANGES):
+        time += chance.choice([3, 7, 20, 61, 130, 200])
+        changed = {it: chance.choice("01" * 9 + "x") for it in chance.sample(range(width), chance.choice([1, 1, 1, 2, 3]))}
+        changed = {it: level for it, level in changed.items() if levels[it] != level}
+        for it, level in changed.items():
+            levels[it] = level
+        if changed:
+            found.append((time * 1000, changed))
+    return found
+
+
+def joined(chance, kinds, width):
+    """Returns a netlist at random of these cells, whose inputs are those of the design or outputs of cells before."""
+    cells, bit = {}, 2 + width
+    for number in range(CELL_COUNT):
+        kind = chance.choice(kinds)
+        nets = {pin: [chance.randrange(2, bit)] for pin in kind.inputs}
+        for pin in kind.outputs:
+            nets[pin], bit = [bit], bit + 1
+        cells[f"u{number}"] = kind, nets
+    ports = {f"a{it}": {"direction": "input", "bits": [2 + it]} for it in range(width)}
+    ports["y"] = {"direction": "output", "bits": list(range(2 + width, bit))}
+    return netlist({name: cell(kind.name, nets) for name, (kind, nets) in cells.items()}, **ports), [kind for kind, _ in cells.values()]
+
+
+def demand_like(lines, wanted, width):
+    """Demands that a listing has these changes of each bit of y, and returns how many there are."""
+    found = {}
+    for time, name, value in lines:
+        if name.startswith("y_"):
+            changes = found.setdefault(2 + width + int(name[2:]), [])
+            if changes and changes[-1][0] == time and len(changes) > 1:
+                changes.pop()
+            if not changes or changes[-1][1] != letter(value):
+                changes.append((time, letter(value)))
+    demand(found and found.keys() == wanted.keys(), f"y has {len(found)} bits in place of {len(wanted)}")
+    for net, right in wanted.items():
+        differs = [it for it in sorted(set(found[net]) ^ set(right))]
+        demand(not differs, f"y_{net - 2 - width} differs first at {differs[0] if differs else 0}")
+    return sum(map(len, wanted.values()))
+
+
+def is_like_reference(programs, folder, library, seed, is_joined, initial):
+    """Demands that each change of each output of cells is the one of the reference."""
+    chance, width = random.Random(seed), 7
+    kinds = [it for it in read_cells(library) if has_paths(it)]
+    given, kinds = joined(chance, [it for it in kinds if it.inputs], width) if is_joined else (instances(kinds, width)[0], kinds)
+    paths, stimuli = [paths_of(chance, it) for it in kinds], stimuli_at_random(chance, width)
+    end = stimuli[-1][0] + 10**7
+    lines = "".join(f"{time}fs a{it} {level}\n" for time, changed in stimuli for it, level in changed.items()) + f"end {end}fs\n"
+    file = put(folder, "delays.sdf", file_of(*(written(f"u{it}", *row) for it, row in enumerate(zip(kinds, paths)))))
+    words = ["--sdf", file, *(["--init", initial] if initial else [])]
+    listing = listing_of(programs, folder, library, given, lines, words)
+    cells = [TimedCell(kind, {pin: bits[0] for pin, bits in it["connections"].items()}, in_femtoseconds(path), initial)
+             for kind, path, it in zip(kinds, paths, json.loads(given)["modules"]["top"]["cells"].values())]
+    inputs = [(time, {2 + it: level for it, level in changed.items()}) for time, changed in stimuli]
+    wanted = Simulation(cells, set(range(2, 2 + width)), inputs).run()
+    return f"{demand_like(listing, {net: it for net, it in wanted.items() if net >= 2 + width}, width)} changes"
+
+
+def in_femtoseconds(paths):
+    return {output: {source: tuple(it and it * 1000 for it in times) for source, times in each.items()} for output, each in paths.items()}
 
 
 def tests_of(programs, folder, damaged):
     for name, *row in LISTED:
         yield name, lambda row=row: is_listed(programs, folder, *row)
     for row in REFUSED:
-        yield row[3], lambda row=row: is_refused(programs[1], folder, *row)
+        yield row[3], lambda row=row: is_refused(programs[1], folder, row[0], "", [*words_of(folder, row[1]), *row[2]], row[3])
+    for package, library in {"": CELLS, **OTHERS}.items():
+        if not os.path.exists(library):
+            print(f"{library}: skipped: apt-get install {package}")
+            continue
+        for seed, (is_joined, initial) in enumerate(((False, None), (False, "0"), (True, None), (True, "1"))):
+            name = f"{os.path.basename(library)}, {'cells joined' if is_joined else 'each cell'}{', from ' + initial if initial else ''}"
+            yield name, lambda *row, library=library, seed=seed, is_joined=is_joined, initial=initial: \
+                is_like_reference(programs, folder, library, seed, is_joined, initial)
     yield "without effect", lambda: is_noted(programs, folder)
     yield "length of the text", lambda: are_short(programs, folder)
     yield "length of the file", lambda: is_linear(programs, folder)
     yield "damaged files", lambda: are_damaged(programs, folder, damaged)
 
 
-def main():
-    if len(sys.argv) not in (3, 4):
-        sys.exit(__doc__)
-    programs, damaged = sys.argv[1:3], int(sys.argv[3]) if len(sys.argv) == 4 else DAMAGED
-    with tempfile.TemporaryDirectory() as folder:
-        sys.exit(tally(tests_of(programs, folder, damaged)) != 0)
-
-
 if __name__ == "__main__":
-    main()
+    main(__doc__, tests_of)

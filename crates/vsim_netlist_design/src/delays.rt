@@ -125,6 +125,9 @@ pub struct Delays {
     pub negative: usize,
 }
 
+/// The number of entries up to which a list grows by one.
+const FEW: usize = 8;
+
 /// A list without entries.
 fn empty_list(alloc: Global, name: &str, line: usize) -> Result<DelayList, AllocError> {
     let name = String::from_str(alloc, name)?;
@@ -147,6 +150,14 @@ fn note_place(
     let place = count.saturating_sub(1);
     places.insert(name, place)?;
     Ok(place)
+}
+
+/// Adds an entry. Lists of few entries, as most are, take no more room than these.
+fn push_entry(entries: &mut Vec<DelayEntry>, entry: DelayEntry) -> Result<(), AllocError> {
+    if entries.len() < FEW {
+        entries.reserve_exact(1)?;
+    }
+    push(entries, entry)
 }
 
 impl DelayTable {
@@ -215,7 +226,7 @@ impl DelayTable {
     /// Adds an entry to the list at an index.
     pub fn put(&mut self, place: usize, entry: DelayEntry) -> Result<(), AllocError> {
         match self.lists.get_mut(place) {
-            Some(list) => push(&mut list.entries, entry),
+            Some(list) => push_entry(&mut list.entries, entry),
             None => Ok(()),
         }
     }

@@ -392,14 +392,63 @@ impl<'a> Builder<'a> {
         }
     }
 
+    /// The gate inside of a cell that drives a bit, if there is one.
+    fn inner_gate(&self, bit: Bit) -> Option<&'a GateCell> {
+        let (netlist, uses) = (self.netlist, self.uses);
+        let Bit::Net(place) = bit else {
+            return None;
+        };
+        let driver = uses.nets.get(place)?.driver;
+        match (netlist.cells.get(driver), netlist.timings.get(driver)) {
+            (Some(Cell::Gate(gate)), Some(None)) if gate.is_inner && gate.output == place => {
+                Some(gate)
+            }
+            _ => None,
+        }
+    }
+
+    /// A bit as an expression in a process with delays of paths. A gate inside of the same cell is
+    /// a part of it, so that both see a change at once.
+    fn whole_operand(&mut self, bit: Bit) -> Result<Expression, AllocError> {
+        match self.inner_gate(bit) {
+            Some(gate) => self.expression(gate),
+            None => Ok(self.operand(bit)),
+        }
+    }
+
+    /// The same as an operand of a comparison: one of literals alone is a signal.
+    fn condition_operand(&mut self, bit: Bit) -> Result<Expression, AllocError> {
+        let operand = self.whole_operand(bit)?;
+        if operand.has_name {
+            return Ok(operand);
+        }
+        Ok(named(self.alloc, self.statements.bit_name(bit)))
+    }
+
+    /// The data of a three-state buffer with delays of its paths.
+    fn timed_value(&mut self, gate: &GateCell, data: &[Bit]) -> Result<Expression, AllocError> {
+        match data {
+            [bit] if gate.steps.is_empty() => self.whole_operand(*bit),
+            _ => self.tristate_value(gate, data),
+        }
+    }
+
     /// The value of a three-state buffer with delays of its paths, if it is connected.
     fn enabled(&mut self, gate: &GateCell) -> Result<Draft, AllocError> {
         let [data @ .., enable] = gate.inputs.as_slice() else {
             return Ok(Draft::new(self.alloc));
         };
-        let value = self.tristate_value(gate, data)?;
-        let (alloc, enable) = (self.alloc, self.statements.bit_name(*enable));
-        Ok(enabled_computation(alloc, &value, enable, !gate.is_low))
+        let value = self.timed_value(gate, data)?;
+        let enable = self.condition_operand(*enable)?;
+        Ok(enabled_computation(self.alloc, &value, &enable, !gate.is_low))
+    }
+
+    /// The data of a register with delays of its paths, if they are connected.
+    fn timed_data(&mut self, register: &Register) -> Result<Option<Expression>, AllocError> {
+        match register.data {
+            Some(bit) if register.clock.is_none() => Ok(Some(self.whole_operand(bit)?)),
+            data => Ok(self.stored(data)),
+        }
     }
 
     /// Adds the process of a net whose new value these statements compute.
@@ -436,16 +485,16 @@ impl<'a> Builder<'a> {
     }
 
     /// The statements that compute the new value of a register.
-    fn computed(&mut self, register: &Register) -> Draft {
+    fn computed(&mut self, register: &Register) -> Result<Draft, AllocError> {
         let conditions = conditions(&mut self.statements, register);
         let list = Draft::new(self.alloc);
         let mut process = Process::new(self.alloc, register.style, list, conditions);
         compute_levels(&mut process, register);
-        let data = self.stored(register.data);
+        let data = self.timed_data(register)?;
         compute(self.alloc, &mut process.data, &data);
         let mut text = Draft::new(self.alloc);
         process.push_statements(self.alloc, &mut text);
-        text
+        Ok(text)
     }
 
     /// Adds a register with the delays of its paths.
@@ -454,7 +503,7 @@ impl<'a> Builder<'a> {
         register: &Register,
         timing: &Timing,
     ) -> Result<(), AllocError> {
-        let computed = self.computed(register);
+        let computed = self.computed(register)?;
         let initial = match self.netlist.nets.get(register.output) {
             Some(net) => net.initial,
             None => None,

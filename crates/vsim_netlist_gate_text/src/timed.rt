@@ -111,12 +111,20 @@ pub(crate) fn computation(alloc: Global, value: &Expression) -> Draft {
     text
 }
 
-/// The computation of a new value that is there while a signal enables it, at `1` if the flag is
+/// Adds an expression as an operand of a comparison.
+fn push_compared(text: &mut Draft, value: &Expression) {
+    let is_plain = !value.text.as_str().contains(' ');
+    text.push(if is_plain { "" } else { "(" });
+    text.push_draft(&value.text);
+    text.push(if is_plain { "" } else { ")" });
+}
+
+/// The computation of a new value that is there while another one enables it, at `1` if the flag is
 /// set.
 pub(crate) fn enabled_computation(
     alloc: Global,
     value: &Expression,
-    enable: &str,
+    enable: &Expression,
     is_high: bool,
 ) -> Draft {
     let (on, off) = if is_high {
@@ -125,8 +133,11 @@ pub(crate) fn enabled_computation(
         ("='0'then ", "='1'then n:='Z';else n:='X';end if;")
     };
     let mut text = Draft::of(alloc, "if ");
-    text.push_all(&[enable, on]);
+    push_compared(&mut text, enable);
+    text.push(on);
     text.push_draft(&computation(alloc, value));
-    text.push_all(&["elsif ", enable, off]);
+    text.push("elsif ");
+    push_compared(&mut text, enable);
+    text.push(off);
     text
 }
