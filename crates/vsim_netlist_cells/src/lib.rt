@@ -5,6 +5,7 @@ mod document;
 mod kinds;
 mod late_inputs;
 mod library_cells;
+mod logic;
 mod modules;
 mod nets;
 mod object;

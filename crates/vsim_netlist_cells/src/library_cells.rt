@@ -2,13 +2,17 @@
 
 use crate::document::{WrittenBit, WrittenCell};
 use crate::kinds::Site;
+use crate::logic::{
+    conflict_of, gate_of, has_plain_controls, is_read_inside, is_variable, level_after, level_of,
+    may_read, reads, steps_of, style_of,
+};
 use crate::nets::Nets;
 use crate::timings::{Connected, Timed};
 use std::alloc::{AllocError, Global};
 use vsim_netlist_design::{
     Bit, Cell, Conflict, Control, Fault, Function, Gate, GateCell, Level, LibraryCell,
-    LibraryEntry, LibraryPin, LibraryState, PathDelay, Register, Source, Step, Style, Timing,
-    Variant, push,
+    LibraryEntry, LibraryPin, LibraryState, PathDelay, Register, Source, Step, Timing, Variant,
+    push,
 };
 
 /// A cell that is being made: the bits of its pins and the nets of its register's variables, as far
@@ -60,112 +64,6 @@ impl Parts {
 /// The refusal of a pin, after its name.
 fn fault_of_pin<'a>(alloc: Global, name: &'a str, told: &'a str) -> Fault {
     Fault::of(alloc, &["its pin ", name, told])
-}
-
-/// The level of a constant, or its negation.
-fn level_of(level: Level, is_negated: bool) -> Level {
-    match (level, is_negated) {
-        (Level::Zero, true) => Level::One,
-        (Level::One, true) => Level::Zero,
-        _ => level,
-    }
-}
-
-/// Whether a function has a variable among its inputs.
-fn reads(function: &Function, variant: Variant) -> bool {
-    for source in function.inputs.iter() {
-        if *source == Source::Variable(variant) {
-            return true;
-        }
-    }
-    false
-}
-
-/// Whether a function, if there is one, has a variable among its inputs.
-fn may_read(function: &Option<Function>, variant: Variant) -> bool {
-    match function {
-        Some(function) => reads(function, variant),
-        None => false,
-    }
-}
-
-/// Whether any function of a register reads a variable.
-fn is_read_inside(state: &LibraryState, variant: Variant) -> bool {
-    may_read(&state.clock, variant)
-        || may_read(&state.data, variant)
-        || may_read(&state.clear, variant)
-        || may_read(&state.preset, variant)
-}
-
-/// Whether the output of a pin is a variable itself.
-fn is_variable(pin: &LibraryPin, variant: Variant) -> bool {
-    match &pin.function {
-        Some(function) if pin.three_state.is_none() => {
-            function.gate == Gate::Buf && reads(function, variant)
-        }
-        _ => false,
-    }
-}
-
-/// The steps of a function, or of its negation.
-fn steps_of(function: &Function, is_negated: bool) -> Result<Vec<Step>, AllocError> {
-    let mut steps = function.steps.clone()?;
-    if is_negated && !steps.is_empty() {
-        push(&mut steps, Step::Not)?;
-    }
-    Ok(steps)
-}
-
-/// The gate of a function, or of its negation.
-fn gate_of(function: &Function, is_negated: bool) -> Gate {
-    match (function.gate, is_negated) {
-        (gate, false) => gate,
-        (Gate::Mux, true) => Gate::Nmux,
-        (Gate::Nmux, true) => Gate::Mux,
-        _ => Gate::Function,
-    }
-}
-
-/// The level at which a variable is cleared, or preset.
-fn level_after(variant: Variant, is_clear: bool) -> Level {
-    if is_clear == (variant == Variant::Plain) {
-        Level::Zero
-    } else {
-        Level::One
-    }
-}
-
-/// What a variable is while its register is both cleared and preset.
-fn conflict_of(state: &LibraryState, variant: Variant) -> Conflict {
-    match variant {
-        Variant::Plain => state.plain,
-        Variant::Negated => state.negated,
-    }
-}
-
-/// Whether a function, if there is one, is an input or its negation.
-fn is_plain(function: &Option<Function>) -> bool {
-    match function {
-        Some(function) => function.steps.len() <= 2 && function.inputs.len() <= 1,
-        None => true,
-    }
-}
-
-/// Whether what controls a register are inputs or their negations, as are the data of a latch.
-fn has_plain_controls(state: &LibraryState) -> bool {
-    let is_data_plain = !state.is_latch || is_plain(&state.data);
-    is_data_plain && is_plain(&state.clock) && is_plain(&state.clear) && is_plain(&state.preset)
-}
-
-/// The style of a register, by what it has.
-fn style_of(state: &LibraryState) -> Style {
-    match (state.clear.is_some(), state.preset.is_some()) {
-        _ if state.is_latch && state.clock.is_none() => Style::Bare,
-        _ if state.is_latch => Style::Latch,
-        (true, true) => Style::SetReset,
-        (false, false) => Style::Plain,
-        _ => Style::Asynchronous,
-    }
 }
 
 impl Making<'_> {

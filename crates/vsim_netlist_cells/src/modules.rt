@@ -315,9 +315,14 @@ fn put_late_inputs(site: Site<'_>, nets: &mut Nets, netlist: &mut Netlist) -> Re
     }
     let mut parts = Parts::new(site.alloc);
     read_inputs_late(site.alloc, nets, netlist, &mut parts)?;
-    let origin = String::from_str(site.alloc, "an input")?;
+    Ok(append_late(site.alloc, netlist, &mut parts)?)
+}
+
+/// Adds the cells by which registers read inputs late.
+fn append_late(alloc: Global, netlist: &mut Netlist, parts: &mut Parts) -> Result<(), AllocError> {
+    let origin = String::from_str(alloc, "an input")?;
     put_origins(&mut netlist.origins, &origin, parts.cells.len())?;
-    Ok(append(netlist, &mut parts)?)
+    append(netlist, parts)
 }
 
 /// Adds the ports, cells and names of a module.
