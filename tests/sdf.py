@@ -9,7 +9,8 @@ DAMAGED times (1,000 if it is not given), which end in a text that VSIM reads, o
 
 Then each cell of netlists/cells.lib, and of osu018, osu035 and osu050 where Debian's packages qflow-tech-osu018 and so on are installed, with
 delays at random and inputs that change at random, several at once and sooner than cells follow: alone, and in netlists at random. Every change
-of every output is to be that of sdf_reference.py, which knows the rules and nothing of VSIM_NETLIST.
+of every output is to be that of sdf_reference.py, which knows the rules and nothing of VSIM_NETLIST. And where Yosys, OpenSTA and Icarus are
+installed, the commands of docs/SYNTHESIS.md from Verilog to a listing with delays, whose values before each edge are to be those of the source.
 
 What differs is told, and the last line is `N passed, M failed`.
 """
@@ -17,13 +18,15 @@ import json
 import os
 import random
 import re
+import shutil
+import subprocess
 import sys
 import time
 
 sys.path.insert(0, os.path.dirname(os.path.realpath(__file__)))
 from cell_files import are_read_or_refused, demand_listed, listing_of, main, put  # noqa: E402
-from liberty import CELLS, OTHERS, instances, letter, names_in, read_cells  # noqa: E402
-from netlist_texts import cell, demand, is_refused, netlist, run  # noqa: E402
+from liberty import CELLS, OTHERS, instances, letter, names_in, read_cells, values_before  # noqa: E402
+from netlist_texts import FOLDER, TOP, Waves, cell, demand, is_refused, known_to, netlist, read, run, wide  # noqa: E402
 from sdf_reference import Simulation, TimedCell  # noqa: E402
 
 SECONDS = 1
@@ -416,6 +419,45 @@ def in_femtoseconds(paths):
     return {output: {source: tuple(it and it * 1000 for it in times) for source, times in each.items()} for output, each in paths.items()}
 
 
+# ------------------------------------------------------------------------------------------- from Verilog to a listing
+def commands_of(programs):
+    """Returns the commands of docs/SYNTHESIS.md that need no other program of this repository, and the lines of its uart.tcl."""
+    with open(f"{TOP}/docs/SYNTHESIS.md", encoding="utf-8") as file:
+        _, _, part = file.read().partition("## Delays of an SDF file\n")
+    lines, _, rest = part.partition("`uart.tcl` has the lines")
+    commands = re.findall(r"^    (.*)$", lines, re.M)
+    script = re.findall(r"`((?:set |read_|link_|write_)[^`]*)`", rest.partition("\n\n")[0].replace("\n", " "))
+    own = {"./vsim_netlist ": f"{programs[1]} ", "./vsim ": f"{programs[0]} "}
+    for name, program in own.items():
+        commands = [program + it[len(name):] if it.startswith(name) else it for it in commands]
+    return [it for it in commands if not it.startswith("./vsim_")], script
+
+
+def is_chain_run(programs, folder):
+    """Demands that gates with delays of a timing analyser are like their source before each edge of the clock, where that is known."""
+    commands, script = commands_of(programs)
+    demand(len(commands) == 5 and len(script) == 5, f"{len(commands)} commands, {len(script)} lines")
+    for name, path in {"cells.lib": OTHERS["qflow-tech-osu018"], **{it: f"{FOLDER}/designs/{it}" for it in ("uart.v", "uart_tb.v")}}.items():
+        shutil.copy(path, f"{folder}/{name}")
+    put(folder, "uart.tcl", "\n".join(script) + "\n")
+    for command in commands:
+        ran = subprocess.run(command, shell=True, cwd=folder, stdin=subprocess.DEVNULL, stdout=subprocess.PIPE, stderr=subprocess.STDOUT)
+        demand(ran.returncode == 0, f"{command}: {ran.stdout.decode(errors='replace')[-300:]}")
+    source, known = Waves(read(f"{folder}/uart.vcd"), "tb.dut"), known_to(f"{folder}/uart.map")
+    edges = [time for time, code, level in source.changes if code == source.variables["clk"][0] and level == "1"]
+    lines = [line.split() for line in read(f"{folder}/uart.listing").decode().splitlines()]
+    ours = values_before([(int(it[0]), it[2], it[3]) for it in lines if len(it) == 4], edges)
+    count = 0
+    for time, mine, theirs in zip(edges, ours, source.at([it - 1 for it in edges])):
+        for path in known.keys() & source.variables.keys():
+            code, width = source.variables[path]
+            for name, level in zip(known[path], reversed(wide(theirs.get(code, "x"), width))):
+                found = letter(name.strip("'")) if name.startswith("'") else mine.get(name, "x")
+                demand("x" in (level, found) or found == level, f"before {time} fs: {path} is {found}, and {level} in the source")
+                count += level != "x"
+    return f"{count} values before {len(edges)} edges"
+
+
 def tests_of(programs, folder, damaged):
     for name, *row in LISTED:
         yield name, lambda row=row: is_listed(programs, folder, *row)
@@ -429,6 +471,11 @@ def tests_of(programs, folder, damaged):
             name = f"{os.path.basename(library)}, {'cells joined' if is_joined else 'each cell'}{', from ' + initial if initial else ''}"
             yield name, lambda *row, library=library, seed=seed, is_joined=is_joined, initial=initial: \
                 is_like_reference(programs, folder, library, seed, is_joined, initial)
+    missing = [it for it in ("iverilog", "yosys", "sta") if not shutil.which(it)]
+    if missing or not os.path.exists(OTHERS["qflow-tech-osu018"]):
+        print("from Verilog to a listing: skipped: apt-get install iverilog yosys opensta qflow-tech-osu018")
+    else:
+        yield "from Verilog to a listing", lambda: is_chain_run(programs, folder)
     yield "without effect", lambda: is_noted(programs, folder)
     yield "length of the text", lambda: are_short(programs, folder)
     yield "length of the file", lambda: is_linear(programs, folder)
