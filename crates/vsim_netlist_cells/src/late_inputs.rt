@@ -4,7 +4,7 @@
 use crate::library_cells::{Parts, buffer};
 use crate::nets::Nets;
 use std::alloc::{AllocError, Global};
-use vsim_netlist_design::{Bit, Cell, Control, Netlist, Port, Register, Style, push};
+use vsim_netlist_design::{Bit, Cell, Control, Netlist, Port, Register, Style};
 
 /// What a net is: an input, one that another net follows, or none.
 #[derive(Clone, Copy)]
