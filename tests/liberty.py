@@ -4,9 +4,9 @@
     liberty.py VSIM VSIM_NETLIST [DAMAGED]
 
 The simulator knows the rules of the format and nothing of VSIM_NETLIST: it reads a Liberty file, and for each cell works out its outputs after
-each change of an input. Each cell of netlists/cells.lib, and of osu018, osu035 and osu050 where Debian's packages qflow-tech-osu018 and so on are
-installed, is run with inputs that change at random, one at a time, to 0, 1 and x. Without delays each output is to have the same value at the end of each time, and with
-delays that are shorter than the time between changes the same value before the next change.
+each change of an input. Each cell of netlists/cells.lib, and of osu018, osu035 and osu050 where Debian's packages qflow-tech-osu018 and so on
+are installed, is run with inputs that change at random, one at a time, to 0, 1 and x. Without delays each output is to have the same value at
+the end of each time, and with delays that are shorter than the time between changes the same value before the next change.
 
 Then functions with formulas of Python that were written beside them, for all values of their inputs; cells whose listings were worked out by
 hand, with delays; files with a fault, each refused by a sentence; and netlists/cells.lib with one token changed or removed, DAMAGED times
