@@ -51,6 +51,8 @@ pub(crate) struct Options<'a> {
     pub(crate) delays: &'a str,
     pub(crate) hold: &'a str,
     map: &'a str,
+    /// Whether the text is for `vsim --large`.
+    pub(crate) is_large: bool,
     pub(crate) names_entity: bool,
 }
 
@@ -124,6 +126,14 @@ fn entity<'a>(alloc: Global) -> Arg<'a> {
         .help("Print the name of the text's entity, for vsim --top, and no text")
 }
 
+/// The option for the larger limits of vsim.
+fn large<'a>(alloc: Global) -> Arg<'a> {
+    Arg::new(alloc, "large")
+        .long("large")
+        .action(ArgAction::SetTrue)
+        .help("Take what vsim --large takes: longer texts and larger designs")
+}
+
 /// The option of the version.
 fn version<'a>(alloc: Global) -> Arg<'a> {
     Arg::new(alloc, "version")
@@ -166,7 +176,7 @@ fn with_design<'a>(alloc: Global, command: Command<'a>) -> Result<Command<'a>, A
     with_valued(alloc, command, "scope", "SCOPE", help)
 }
 
-/// Adds the options about how to write it.
+/// Adds the options about times and other files.
 fn with_times<'a>(alloc: Global, command: Command<'a>) -> Result<Command<'a>, AllocError> {
     let help = "As nand=40ps,dff=200ps/180ps,others=60ps";
     let command = with_valued(alloc, command, "delays", "LIST", help)?;
@@ -176,6 +186,12 @@ fn with_times<'a>(alloc: Global, command: Command<'a>) -> Result<Command<'a>, Al
     with_valued(alloc, command, "map", "FILE", help)
 }
 
+/// Adds the flags.
+fn with_flags<'a>(alloc: Global, command: Command<'a>) -> Result<Command<'a>, AllocError> {
+    let command = command.arg(large(alloc))?.arg(entity(alloc))?;
+    command.arg(version(alloc))
+}
+
 /// The command line of the program, without its name.
 pub(crate) fn command_line<'a>(alloc: Global) -> Result<Command<'a>, AllocError> {
     let command = Command::new(alloc, "vsim_netlist")
@@ -183,8 +199,8 @@ pub(crate) fn command_line<'a>(alloc: Global) -> Result<Command<'a>, AllocError>
         .after_help(MORE)
         .no_binary_name(true);
     let command = with_design(alloc, command)?;
-    let command = with_times(alloc, command)?.arg(entity(alloc))?;
-    command.arg(version(alloc))
+    let command = with_times(alloc, command)?;
+    with_flags(alloc, command)
 }
 
 /// The value of an option; empty if it is not given.
@@ -216,6 +232,7 @@ pub(crate) fn make_options<'a>(matches: &'a ArgMatches<'_>) -> Options<'a> {
         delays: value(matches, "delays"),
         hold: value(matches, "hold"),
         map: value(matches, "map"),
+        is_large: matches.get_flag("large"),
         names_entity: matches.get_flag("entity"),
     }
 }

@@ -144,6 +144,7 @@ fn write_netlist(
         stimuli,
         delays: delays.as_slice(),
         hold,
+        is_large: options.is_large,
     };
     write_text(alloc, &request)
 }

@@ -11,11 +11,34 @@ use vsim_netlist_uses::{
     Clocks, Uses, all_within, driven_nets, refuse_clashes, refuse_loops, wanted_nets,
 };
 
-/// The maximum size of a text of vsim, in bytes.
-const MOST_BYTES: usize = 1_048_576;
+/// What vsim takes.
+#[derive(Clone, Copy)]
+struct Limits {
+    /// The most bytes of a text.
+    bytes: usize,
+    /// The most nets, processes and drivers of a design.
+    objects: usize,
+    /// What helps with a text that is too long.
+    with_bytes: &'static str,
+    /// What helps with a design that is too large.
+    with_objects: &'static str,
+}
 
-/// The maximum number of nets, of processes and of drivers in a design of vsim.
-const MOST: usize = 65_536;
+/// What vsim takes without `--large`.
+const USUAL: Limits = Limits {
+    bytes: 1_048_576,
+    objects: 65_536,
+    with_bytes: "shorter stimuli, a smaller part of the design or --large help",
+    with_objects: "a smaller part of the design or --large helps",
+};
+
+/// What it takes with `--large`.
+const LARGE: Limits = Limits {
+    bytes: 268_435_456,
+    objects: 1_000_000,
+    with_bytes: "shorter stimuli or a smaller part of the design help",
+    with_objects: "a smaller part of the design helps",
+};
 
 /// The netlist, and how its text is to be written.
 #[derive(Clone, Copy)]
@@ -25,6 +48,8 @@ pub(crate) struct Request<'a> {
     pub(crate) delays: &'a [NamedDelay],
     /// The hold time of inputs other than clocks, in femtoseconds.
     pub(crate) hold: u64,
+    /// Whether the text is for `vsim --large`.
+    pub(crate) is_large: bool,
 }
 
 /// A text, the name of its entity, its map, notes about what nothing drives and about delays without
@@ -58,24 +83,13 @@ fn demand(alloc: Global, count: usize, most: usize, what: &str, advice: &str) ->
 }
 
 /// Refuses a text that exceeds a limit of vsim.
-fn demand_limits(statements: &Statements, bytes: usize) -> Result<(), Fault> {
+fn demand_limits(statements: &Statements, bytes: usize, limits: Limits) -> Result<(), Fault> {
     let alloc = statements.alloc;
-    let smaller = "a smaller part of the design helps";
-    demand(
-        alloc,
-        bytes,
-        MOST_BYTES,
-        "bytes",
-        "shorter stimuli or a smaller part of the design help",
-    )?;
-    demand(alloc, statements.signals.count(), MOST, "nets", smaller)?;
-    demand(
-        alloc,
-        statements.processes.max(statements.drivers),
-        MOST,
-        "processes or drivers",
-        smaller,
-    )
+    let (most, advice) = (limits.objects, limits.with_objects);
+    demand(alloc, bytes, limits.bytes, "bytes", limits.with_bytes)?;
+    demand(alloc, statements.signals.count(), most, "nets", advice)?;
+    let processes = statements.processes.max(statements.drivers);
+    demand(alloc, processes, most, "processes or drivers", advice)
 }
 
 /// Adds the part before the statements.
@@ -102,9 +116,10 @@ fn whole(statements: &Statements) -> Result<String, AllocError> {
 }
 
 /// The whole text, within the limits.
-fn limited(statements: &Statements) -> Result<String, Fault> {
+fn limited(statements: &Statements, is_large: bool) -> Result<String, Fault> {
+    let limits = if is_large { LARGE } else { USUAL };
     let text = whole(statements)?;
-    demand_limits(statements, text.len())?;
+    demand_limits(statements, text.len(), limits)?;
     Ok(text)
 }
 
@@ -137,7 +152,7 @@ fn finished(
     uses: &Uses,
     derived_clocks: usize,
 ) -> Result<Written, Fault> {
-    let text = limited(statements)?;
+    let text = limited(statements, request.is_large)?;
     let (map, undriven) = map_and_note(statements, request, uses)?;
     let entity = String::from_str(statements.alloc, statements.signals.entity.as_str())?;
     Ok(Written {
