@@ -4,9 +4,9 @@
     liberty.py VSIM VSIM_NETLIST [DAMAGED]
 
 The simulator knows the rules of the format and nothing of VSIM_NETLIST: it reads a Liberty file, and for each cell works out its outputs after
-each change of an input. Each cell of netlists/cells.lib, and of osu018, osu035 and osu050 where Debian's packages qflow-tech-osu018 and so on are
-installed, is run with inputs that change at random, one at a time, to 0, 1 and x. Without delays each output is to have the same value at the end of each time, and with
-delays that are shorter than the time between changes the same value before the next change.
+each change of an input. Each cell of netlists/cells.lib, and of osu018, osu035 and osu050 where Debian's packages qflow-tech-osu018 and so on
+are installed, is run with inputs that change at random, one at a time, to 0, 1 and x. Without delays each output is to have the same value at
+the end of each time, and with delays that are shorter than the time between changes the same value before the next change.
 
 Then functions with formulas of Python that were written beside them, for all values of their inputs; cells whose listings were worked out by
 hand, with delays; files with a fault, each refused by a sentence; and netlists/cells.lib with one token changed or removed, DAMAGED times
@@ -19,17 +19,16 @@ import os
 import random
 import re
 import sys
-import tempfile
 
 sys.path.insert(0, os.path.dirname(os.path.realpath(__file__)))
-from netlist_texts import FOLDER, cell, demand, is_refused, netlist, put_stimuli, run, tally  # noqa: E402
+from cell_files import are_read_or_refused, demand_listed, listing_of, main, put  # noqa: E402
+from netlist_texts import FOLDER, cell, demand, is_refused, netlist  # noqa: E402
 
 CELLS = f"{FOLDER}/cells.lib"
 # Debian's libraries
 OTHERS = {"qflow-tech-osu018": "/usr/share/qflow/tech/osu018/osu018_stdcells.lib",
           "qflow-tech-osu035": "/usr/share/qflow/tech/osu035/osu035_stdcells.lib",
           "qflow-tech-osu050": "/usr/share/qflow/tech/osu050/osu05_stdcells.lib"}
-DAMAGED = 1000
 SECONDS = 2
 # how many times an input changes, and the time between changes, in femtoseconds
 CHANGES = 3000
@@ -240,16 +239,6 @@ def read_cells(path):
 
 
 # ------------------------------------------------------------------------------------------- runs
-def listing_of(programs, folder, library, given, stimuli, words=()):
-    """Returns the lines of the listing of a netlist, as (time, name, value)."""
-    status, text, said = run([programs[1], "--liberty", library, *put_stimuli(folder, stimuli), *words], given.encode())
-    demand(status == 0, said)
-    status, listing, said = run([programs[0], "--top", "top", "--limit", "1000000"], text)
-    demand(status == 0, f"vsim: {said} for {text.decode()[:2000]}")
-    lines = [line.split() for line in listing.decode().splitlines()]
-    return [(int(it[0]), it[2], it[3]) for it in lines if len(it) == 4]
-
-
 def letter(value):
     return {"0": "0", "1": "1", "Z": "z"}.get(value, "x")
 
@@ -350,9 +339,7 @@ def are_functions_right(programs, folder):
     """Demands that each function of the table has the values of its formula for all values of its inputs."""
     cells = "".join(f'cell (F{number}) {{ pin ({",".join(PINS)}) {{ direction : input; }}\n'
                     f'pin (Y) {{ direction : output; function : "{text}"; }} }}\n' for number, (text, _) in enumerate(FUNCTIONS))
-    path = f"{folder}/functions.lib"
-    with open(path, "w", encoding="utf-8") as file:
-        file.write(f"library (functions) {{\n{cells}}}\n")
+    path = put(folder, "functions.lib", f"library (functions) {{\n{cells}}}\n")
     width, count = len(PINS), len(FUNCTIONS)
     taken = {pin: [2 + it] for it, pin in enumerate(PINS)}
     given = netlist({f"u{it}": cell(f"F{it}", taken | {"Y": [2 + width + it]}) for it in range(count)},
@@ -396,6 +383,13 @@ LISTED = [
     # an initial value
     (netlist({"u": cell("DFF", {"D": A, "CK": B, "Q": Y})}, **TWO).replace('"bits": [3], "attributes": {}', '"bits": [3], "attributes": {"init": "0"}'),
      "0 a 1\n0 b 0\n1ns b 1\n", [], "0 0, 1000000 1"),
+    # the level with which registers begin, unless the netlist says it
+    (netlist({"u": cell("DFF", {"D": A, "CK": B, "Q": Y})}, **TWO), "0 a 1\n0 b 0\n1ns b 1\n", ["--init", "0"], "0 0, 1000000 1"),
+    (netlist({"u": cell("DFFN", {"D": A, "CK": B, "QN": Y})}, **TWO), "0 a 1\n0 b 1\n1ns b 0\n", ["--init", "0"], "0 1, 1000000 0"),
+    (netlist({"u": cell("LATCH", {"D": A, "G": B, "Q": Y})}, **TWO), "0 a 0\n0 b 0\n1ns b 1\n", ["--init", "1"], "0 1, 1000000 0"),
+    (netlist({"u": cell("$_DFF_P_", {"D": A, "C": B, "Q": Y})}, **TWO), "0 a 0\n0 b 0\n1ns b 1\n", ["--init", "1"], "0 1, 1000000 0"),
+    (netlist({"u": cell("DFF", {"D": A, "CK": B, "Q": Y})}, **TWO).replace('"bits": [3], "attributes": {}', '"bits": [3], "attributes": {"init": "0"}'),
+     "0 a 1\n0 b 0\n1ns b 1\n", ["--init", "1"], "0 0, 1000000 1"),
     # outputs that are not connected, and a cell without outputs
     (netlist({"u": cell("DFFE", {"D": A, "E": ["1"], "CK": B, "Q": [], "QN": Y}), "v": cell("FILL", {})}, **TWO), "0 a 1\n0 b 0\n1ns b 1\n", [],
      "0 U, 1000000 0"),
@@ -408,8 +402,7 @@ LISTED = [
 
 
 def is_listed(programs, folder, given, stimuli, words, wanted):
-    found = ", ".join(f"{time} {value}" for time, name, value in listing_of(programs, folder, CELLS, given, stimuli, words) if name == "y")
-    demand(found == wanted, f"y is {found}")
+    demand_listed(listing_of(programs, folder, CELLS, given, stimuli, words), wanted)
 
 
 # ------------------------------------------------------------------------------------------- refusals
@@ -480,17 +473,13 @@ REFUSED = [
 
 
 def is_library_refused(program, folder, text, given, told):
-    path = f"{folder}/refused.lib"
-    with open(path, "w", encoding="utf-8") as file:
-        file.write(text)
+    path = put(folder, "refused.lib", text)
     is_refused(program, folder, given, "", ["--liberty", path], told.replace("file L:", f"file {path}:"))
 
 
 def are_one_library(programs, folder):
     """Demands that a netlist may have cells of two files, and that no cell is in both."""
-    path = f"{folder}/second.lib"
-    with open(path, "w", encoding="utf-8") as file:
-        file.write(with_function("A'"))
+    path = put(folder, "second.lib", with_function("A'"))
     given = netlist({"u": cell("INV", {"A": A, "Y": [9]}), "v": cell("X", {"A": [9], "Y": Y})})
     lines = listing_of(programs, folder, CELLS, given, "0 a 0\n1ns a 1\n", ["--liberty", path])
     demand([it for it in lines if it[1] == "y"] == [(0, "y", "U"), (0, "y", "0"), (10**6, "y", "1")], f"{lines}")
@@ -511,22 +500,8 @@ def are_damaged(programs, folder, count):
     with open(CELLS, encoding="utf-8") as file:
         tokens = re.findall(r'"(?:[^"\\]|\\.)*"|[^\s(){}:;,"]+|[(){}:;,"]|\s+', file.read())
     given = instances(read_cells(CELLS), 7)[0].encode()
-    chance, path, texts = random.Random(11), f"{folder}/damaged.lib", 0
-    for number in range(count):
-        place = chance.randrange(len(tokens))
-        others = ["", "", "(", ")", "{", "}", ";", ":", ",", '"', "\\", "/*", "//", "A", "IQ", '"A*"', "direction", chance.choice(tokens)]
-        text = "".join([*tokens[:place], chance.choice(others), *tokens[place + 1:]])
-        with open(path, "w", encoding="utf-8") as file:
-            file.write(text)
-        status, out, said = run([programs[1], "--liberty", path], given, SECONDS)
-        demand(status in (0, 1), f"status {status} for damage {number}: {said}")
-        if status == 1:
-            demand(said.startswith("vsim_netlist: ") and said.count("\n") == 1 and not out, f"damage {number}: {said}")
-        elif number % 20 == 0:
-            texts += 1
-            status, _, said = run([programs[0], "--top", "top"], out, SECONDS)
-            demand(status == 0, f"damage {number}: vsim: {said}")
-    demand(count < 100 or texts > 2, f"{texts} texts")
+    signs = ["", "", "(", ")", "{", "}", ";", ":", ",", '"', "\\", "/*", "//", "A", "IQ", '"A*"', "direction"]
+    are_read_or_refused(programs, given, tokens, signs, lambda text: ["--liberty", put(folder, "damaged.lib", text)], SECONDS, count)
 
 
 def tests_of(programs, folder, damaged):
@@ -547,13 +522,5 @@ def tests_of(programs, folder, damaged):
     yield "damaged files", lambda: are_damaged(programs, folder, damaged)
 
 
-def main():
-    if len(sys.argv) not in (3, 4):
-        sys.exit(__doc__)
-    programs, damaged = sys.argv[1:3], int(sys.argv[3]) if len(sys.argv) == 4 else DAMAGED
-    with tempfile.TemporaryDirectory() as folder:
-        sys.exit(tally(tests_of(programs, folder, damaged)) != 0)
-
-
 if __name__ == "__main__":
-    main()
+    main(__doc__, tests_of)

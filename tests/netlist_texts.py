@@ -587,12 +587,20 @@ def beyond():
     gates = {f"u{it}": cell("$_BUF_", {"A": [2], "Y": [10 + it]}) for it in range(MOST - 4)}
     gates.update((f"t{it}", cell("$_TBUF_", {"A": [2], "E": [2], "Y": [3]})) for it in range(10))
     long = {f"u{it}": cell("$_XOR_", {"A": [it], "B": [it + 1], "Y": [it + 2]}) for it in range(2, MOST)}
-    smaller = "a smaller part of the design helps"
+    smaller = "a smaller part of the design or --large helps"
     return [
         (netlist({}, **port), f"{MOST + 1} nets, of which vsim takes {MOST}: {smaller}"),
         (with_names(netlist(gates), n=list(range(10, MOST + 6))), f"{MOST + 6} processes or drivers, of which vsim takes {MOST}: {smaller}"),
-        (netlist(long), "bytes, of which vsim takes 1048576: shorter stimuli or a smaller part of the design help"),
+        (netlist(long), "bytes, of which vsim takes 1048576: shorter stimuli, a smaller part of the design or --large help"),
     ]
+
+
+def is_taken_large(programs, text):
+    """Demands that a netlist beyond a limit has a text with `--large`, and that vsim takes it."""
+    status, made, said = run([programs[1], "--large"], text)
+    demand(status == 0, f"vsim_netlist: {said}")
+    status, _, said = run([programs[0], "--top", "top", "--stop", "0", "--large"], made)
+    demand(status == 0, f"vsim: {said}")
 
 
 def failing(folder):
@@ -718,6 +726,7 @@ def tests_of(programs, folder, mutated):
         yield row[3], lambda row=row: is_refused(program, folder, *row)
     for text, told in beyond():
         yield told, lambda text=text, told=told: is_refused(program, folder, text, "", [], told)
+        yield f"--large: {told}", lambda text=text: is_taken_large(programs, text)
     for row in failing(folder):
         yield f"{row[0]} and status {row[2]}", lambda row=row: fails(program, *row)
     yield "no memory", lambda: has_no_memory(program)

@@ -44,9 +44,15 @@ pub(crate) struct Options<'a> {
     scope: &'a str,
     /// The Liberty files.
     pub(crate) liberty: &'a [&'a str],
+    sdf: &'a str,
+    pub(crate) corner: &'a str,
+    /// The level with which registers begin.
+    pub(crate) initial: &'a str,
     pub(crate) delays: &'a str,
     pub(crate) hold: &'a str,
     map: &'a str,
+    /// Whether the text is for `vsim --large`.
+    pub(crate) is_large: bool,
     pub(crate) names_entity: bool,
 }
 
@@ -79,6 +85,11 @@ impl<'a> Options<'a> {
         given(self.scope)
     }
 
+    /// The file of the delays.
+    pub(crate) fn sdf(&self) -> Option<&'a str> {
+        given(self.sdf)
+    }
+
     /// The file of the map.
     pub(crate) fn map(&self) -> Option<&'a str> {
         given(self.map)
@@ -86,7 +97,7 @@ impl<'a> Options<'a> {
 
     /// Whether delays or a hold time are given.
     pub(crate) fn is_timed(&self) -> bool {
-        !self.delays.is_empty() || !self.hold.is_empty()
+        !self.delays.is_empty() || !self.hold.is_empty() || !self.sdf.is_empty()
     }
 }
 
@@ -115,6 +126,14 @@ fn entity<'a>(alloc: Global) -> Arg<'a> {
         .help("Print the name of the text's entity, for vsim --top, and no text")
 }
 
+/// The option for the larger limits of vsim.
+fn large<'a>(alloc: Global) -> Arg<'a> {
+    Arg::new(alloc, "large")
+        .long("large")
+        .action(ArgAction::SetTrue)
+        .help("Take what vsim --large takes: longer texts and larger designs")
+}
+
 /// The option of the version.
 fn version<'a>(alloc: Global) -> Arg<'a> {
     Arg::new(alloc, "version")
@@ -135,18 +154,29 @@ fn with_liberty<'a>(alloc: Global, command: Command<'a>) -> Result<Command<'a>, 
     )
 }
 
+/// Adds the options about the cells of libraries.
+fn with_libraries<'a>(alloc: Global, command: Command<'a>) -> Result<Command<'a>, AllocError> {
+    let command = with_liberty(alloc, command)?;
+    let help = "The delays of the libraries' cells";
+    let command = with_valued(alloc, command, "sdf", "FILE", help)?;
+    let help = "Which delays: min, typ (the default) or max";
+    let command = with_valued(alloc, command, "corner", "CORNER", help)?;
+    let help = "With what registers and latches begin: 0 or 1";
+    with_valued(alloc, command, "init", "LEVEL", help)
+}
+
 /// Adds the options about what to simulate.
 fn with_design<'a>(alloc: Global, command: Command<'a>) -> Result<Command<'a>, AllocError> {
     let help = "The module, if not the one that is marked as the top";
     let command = with_valued(alloc, command, "top", "NAME", help)?;
-    let command = with_liberty(alloc, command)?;
+    let command = with_libraries(alloc, command)?;
     let help = "How the inputs change: a VCD, or lines";
     let command = with_valued(alloc, command, "stimuli", "FILE", help)?;
     let help = "The scope of the VCD, else the deepest that fits";
     with_valued(alloc, command, "scope", "SCOPE", help)
 }
 
-/// Adds the options about how to write it.
+/// Adds the options about times and other files.
 fn with_times<'a>(alloc: Global, command: Command<'a>) -> Result<Command<'a>, AllocError> {
     let help = "As nand=40ps,dff=200ps/180ps,others=60ps";
     let command = with_valued(alloc, command, "delays", "LIST", help)?;
@@ -156,6 +186,12 @@ fn with_times<'a>(alloc: Global, command: Command<'a>) -> Result<Command<'a>, Al
     with_valued(alloc, command, "map", "FILE", help)
 }
 
+/// Adds the flags.
+fn with_flags<'a>(alloc: Global, command: Command<'a>) -> Result<Command<'a>, AllocError> {
+    let command = command.arg(large(alloc))?.arg(entity(alloc))?;
+    command.arg(version(alloc))
+}
+
 /// The command line of the program, without its name.
 pub(crate) fn command_line<'a>(alloc: Global) -> Result<Command<'a>, AllocError> {
     let command = Command::new(alloc, "vsim_netlist")
@@ -163,8 +199,8 @@ pub(crate) fn command_line<'a>(alloc: Global) -> Result<Command<'a>, AllocError>
         .after_help(MORE)
         .no_binary_name(true);
     let command = with_design(alloc, command)?;
-    let command = with_times(alloc, command)?.arg(entity(alloc))?;
-    command.arg(version(alloc))
+    let command = with_times(alloc, command)?;
+    with_flags(alloc, command)
 }
 
 /// The value of an option; empty if it is not given.
@@ -190,9 +226,13 @@ pub(crate) fn make_options<'a>(matches: &'a ArgMatches<'_>) -> Options<'a> {
         stimuli: value(matches, "stimuli"),
         scope: value(matches, "scope"),
         liberty: values(matches, "liberty"),
+        sdf: value(matches, "sdf"),
+        corner: value(matches, "corner"),
+        initial: value(matches, "init"),
         delays: value(matches, "delays"),
         hold: value(matches, "hold"),
         map: value(matches, "map"),
+        is_large: matches.get_flag("large"),
         names_entity: matches.get_flag("entity"),
     }
 }

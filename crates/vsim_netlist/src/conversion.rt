@@ -1,11 +1,12 @@
 //! From a netlist and stimuli to a text and a map.
 
+use crate::annotation::{demand_instances, note_passed};
 use crate::command::Options;
 use crate::delay_list::{read_delays, read_hold};
 use crate::text::{Request, Written, write_text};
 use std::alloc::{AllocError, Global};
 use vsim_netlist_cells::read_netlist;
-use vsim_netlist_design::{Draft, Fault, Library, Netlist, Port, Stimuli, push};
+use vsim_netlist_design::{Delays, Draft, Fault, Level, Library, Netlist, Port, Stimuli, push};
 use vsim_netlist_stimuli::{Input, LATEST, read_stimuli};
 
 /// Adds an input.
@@ -44,19 +45,46 @@ fn stimuli(
     }
 }
 
+/// The level with which registers and latches begin, if it is given.
+fn read_initial(alloc: Global, word: &str) -> Result<Option<Level>, Fault> {
+    match word {
+        "" => Ok(None),
+        "0" => Ok(Some(Level::Zero)),
+        "1" => Ok(Some(Level::One)),
+        _ => Err(Fault::of(alloc, &["--init: '", word, "' is neither 0 nor 1"])),
+    }
+}
+
 /// Makes the text of a netlist of cells of a library, with the text of its stimuli, if there are
 /// any.
 pub(crate) fn convert(
     alloc: Global,
     options: &Options<'_>,
     library: &Library,
+    delays: Option<&Delays>,
     text: &str,
     of_stimuli: Option<&str>,
 ) -> Result<Written, Fault> {
-    match read_netlist(alloc, text, options.top(), library) {
-        Ok(netlist) => convert_netlist(alloc, options, &netlist, of_stimuli),
+    let initial = read_initial(alloc, options.initial)?;
+    match read_netlist(alloc, text, options.top(), library, delays, initial) {
+        Ok(netlist) => convert_annotated(alloc, options, &netlist, delays, of_stimuli),
         Err(fault) => Err(fault.about(alloc, &["the netlist"])),
     }
+}
+
+/// Makes the text of a netlist that has been read with the delays of a file, if there is one.
+fn convert_annotated(
+    alloc: Global,
+    options: &Options<'_>,
+    netlist: &Netlist,
+    delays: Option<&Delays>,
+    of_stimuli: Option<&str>,
+) -> Result<Written, Fault> {
+    demand_instances(alloc, delays, netlist)?;
+    let passed = note_passed(alloc, delays)?;
+    let mut written = convert_netlist(alloc, options, netlist, of_stimuli)?;
+    written.passed = passed;
+    Ok(written)
 }
 
 /// Makes the text of a netlist that has been read.
@@ -116,6 +144,7 @@ fn write_netlist(
         stimuli,
         delays: delays.as_slice(),
         hold,
+        is_large: options.is_large,
     };
     write_text(alloc, &request)
 }

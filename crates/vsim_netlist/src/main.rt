@@ -3,6 +3,7 @@
 //! source.
 #![tactic(auto)]
 
+mod annotation;
 mod command;
 mod conversion;
 mod delay_list;
@@ -19,8 +20,9 @@ use clap::ArgMatches;
 use std::io::{self, BufWriter, Write, writer};
 use std::process::ExitCode;
 use std::{env, fs};
-use vsim_netlist_design::{Fault, Library};
+use vsim_netlist_design::{Delays, Fault, Library};
 use vsim_netlist_liberty::read_library;
+use vsim_netlist_sdf::{Corner, read_delay_file};
 
 /// The output of `--version`. In the copy that is built, the script `build` fills in this line.
 const VERSION: &str = "vsim_netlist 1.0.0, sources unknown, toolchain unknown
@@ -79,6 +81,7 @@ fn write_text(rt: &HostRuntime, text: &str) -> Result<(), Failure> {
 /// be written.
 fn warn(rt: &HostRuntime, options: &Options<'_>, written: &Written) {
     let _told = rt.eprint(written.undriven.as_str());
+    let _noted = rt.eprint(written.passed.as_str());
     if written.derived_clocks > 0 && !options.is_timed() {
         let _warned = rt.eprint(DERIVED);
     }
@@ -136,6 +139,37 @@ fn library(rt: &HostRuntime, options: &Options<'_>) -> Result<Library, Failure> 
     Ok(library)
 }
 
+/// The corner with a name.
+fn corner(rt: &HostRuntime, word: &str) -> Result<Corner, Failure> {
+    match word {
+        "min" => Ok(Corner::Minimum),
+        "typ" | "" => Ok(Corner::Typical),
+        "max" => Ok(Corner::Maximum),
+        _ => {
+            let told = ["--corner: '", word, "' is none of min, typ and max"];
+            Err(Failure::Conversion(Fault::of(rt.alloc(), told.as_slice())))
+        }
+    }
+}
+
+/// The delays of a file.
+fn read_delays(rt: &HostRuntime, path: &str, corner: Corner) -> Result<Delays, Failure> {
+    let text = read_bytes(rt, path)?;
+    match read_delay_file(rt.alloc(), text.as_slice(), corner) {
+        Ok(delays) => Ok(delays),
+        Err(fault) => Err(Failure::Conversion(fault)),
+    }
+}
+
+/// The delays of the file that is named, if one is.
+fn delays(rt: &HostRuntime, options: &Options<'_>) -> Result<Option<Delays>, Failure> {
+    let corner = corner(rt, options.corner)?;
+    match options.sdf() {
+        Some(path) => Ok(Some(read_delays(rt, path, corner)?)),
+        None => Ok(None),
+    }
+}
+
 /// Makes the text of a netlist, or tells why there is none.
 fn converted(
     rt: &HostRuntime,
@@ -144,7 +178,15 @@ fn converted(
     stimuli: Option<&str>,
 ) -> Result<Written, Failure> {
     let library = library(rt, options)?;
-    match convert(rt.alloc(), options, &library, netlist, stimuli) {
+    let delays = delays(rt, options)?;
+    match convert(
+        rt.alloc(),
+        options,
+        &library,
+        delays.as_ref(),
+        netlist,
+        stimuli,
+    ) {
         Ok(written) => Ok(written),
         Err(fault) => Err(Failure::Conversion(fault)),
     }

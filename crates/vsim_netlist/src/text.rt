@@ -11,11 +11,34 @@ use vsim_netlist_uses::{
     Clocks, Uses, all_within, driven_nets, refuse_clashes, refuse_loops, wanted_nets,
 };
 
-/// The maximum size of a text of vsim, in bytes.
-const MOST_BYTES: usize = 1_048_576;
+/// What vsim takes.
+#[derive(Clone, Copy)]
+struct Limits {
+    /// The most bytes of a text.
+    bytes: usize,
+    /// The most nets, processes and drivers of a design.
+    objects: usize,
+    /// What helps with a text that is too long.
+    with_bytes: &'static str,
+    /// What helps with a design that is too large.
+    with_objects: &'static str,
+}
 
-/// The maximum number of nets, of processes and of drivers in a design of vsim.
-const MOST: usize = 65_536;
+/// What vsim takes without `--large`.
+const USUAL: Limits = Limits {
+    bytes: 1_048_576,
+    objects: 65_536,
+    with_bytes: "shorter stimuli, a smaller part of the design or --large help",
+    with_objects: "a smaller part of the design or --large helps",
+};
+
+/// What it takes with `--large`.
+const LARGE: Limits = Limits {
+    bytes: 268_435_456,
+    objects: 1_000_000,
+    with_bytes: "shorter stimuli or a smaller part of the design help",
+    with_objects: "a smaller part of the design helps",
+};
 
 /// The netlist, and how its text is to be written.
 #[derive(Clone, Copy)]
@@ -25,16 +48,19 @@ pub(crate) struct Request<'a> {
     pub(crate) delays: &'a [NamedDelay],
     /// The hold time of inputs other than clocks, in femtoseconds.
     pub(crate) hold: u64,
+    /// Whether the text is for `vsim --large`.
+    pub(crate) is_large: bool,
 }
 
-/// A text, the name of its entity, its map, a note about what nothing drives, and the number of
-/// clocks that gates or registers drive.
+/// A text, the name of its entity, its map, notes about what nothing drives and about delays without
+/// effect, and the number of clocks that gates or registers drive.
 #[derive(Drop)]
 pub(crate) struct Written {
     pub(crate) text: String,
     pub(crate) entity: String,
     pub(crate) map: String,
     pub(crate) undriven: String,
+    pub(crate) passed: String,
     pub(crate) derived_clocks: usize,
 }
 
@@ -57,24 +83,13 @@ fn demand(alloc: Global, count: usize, most: usize, what: &str, advice: &str) ->
 }
 
 /// Refuses a text that exceeds a limit of vsim.
-fn demand_limits(statements: &Statements, bytes: usize) -> Result<(), Fault> {
+fn demand_limits(statements: &Statements, bytes: usize, limits: Limits) -> Result<(), Fault> {
     let alloc = statements.alloc;
-    let smaller = "a smaller part of the design helps";
-    demand(
-        alloc,
-        bytes,
-        MOST_BYTES,
-        "bytes",
-        "shorter stimuli or a smaller part of the design help",
-    )?;
-    demand(alloc, statements.signals.count(), MOST, "nets", smaller)?;
-    demand(
-        alloc,
-        statements.processes.max(statements.drivers),
-        MOST,
-        "processes or drivers",
-        smaller,
-    )
+    let (most, advice) = (limits.objects, limits.with_objects);
+    demand(alloc, bytes, limits.bytes, "bytes", limits.with_bytes)?;
+    demand(alloc, statements.signals.count(), most, "nets", advice)?;
+    let processes = statements.processes.max(statements.drivers);
+    demand(alloc, processes, most, "processes or drivers", advice)
 }
 
 /// Adds the part before the statements.
@@ -90,6 +105,7 @@ fn push_head(text: &mut Draft, signals: &Signals) {
 /// The whole text.
 fn whole(statements: &Statements) -> Result<String, AllocError> {
     let mut text = Draft::new(statements.alloc);
+    text.push_draft(&statements.entities);
     push_head(&mut text, &statements.signals);
     text.push_draft(&statements.body);
     text.push("end;\n");
@@ -100,9 +116,10 @@ fn whole(statements: &Statements) -> Result<String, AllocError> {
 }
 
 /// The whole text, within the limits.
-fn limited(statements: &Statements) -> Result<String, Fault> {
+fn limited(statements: &Statements, is_large: bool) -> Result<String, Fault> {
+    let limits = if is_large { LARGE } else { USUAL };
     let text = whole(statements)?;
-    demand_limits(statements, text.len())?;
+    demand_limits(statements, text.len(), limits)?;
     Ok(text)
 }
 
@@ -135,7 +152,7 @@ fn finished(
     uses: &Uses,
     derived_clocks: usize,
 ) -> Result<Written, Fault> {
-    let text = limited(statements)?;
+    let text = limited(statements, request.is_large)?;
     let (map, undriven) = map_and_note(statements, request, uses)?;
     let entity = String::from_str(statements.alloc, statements.signals.entity.as_str())?;
     Ok(Written {
@@ -143,6 +160,7 @@ fn finished(
         entity,
         map,
         undriven,
+        passed: String::new(statements.alloc),
         derived_clocks,
     })
 }
@@ -174,6 +192,15 @@ fn named_levels(alloc: Global, request: &Request<'_>) -> Result<Vec<Level>, Allo
     }
 }
 
+/// Makes nets unknown at first, unless the source says what they are.
+fn begin_unknown(signals: &mut Signals, netlist: &Netlist) {
+    for (place, net) in netlist.nets.iter().enumerate() {
+        if net.initial.is_none() {
+            signals.begin(place, Level::Unknown);
+        }
+    }
+}
+
 /// The signals of the netlist, with names for those that need one.
 fn signals(
     alloc: Global,
@@ -184,7 +211,11 @@ fn signals(
     let levels = named_levels(alloc, request)?;
     let wanted = wanted_nets(alloc, uses, within)?;
     let (levels, wanted) = (levels.as_slice(), wanted.as_slice());
-    Ok(make_signals(alloc, request.netlist, levels, wanted))
+    let mut signals = make_signals(alloc, request.netlist, levels, wanted);
+    if request.netlist.has_paths {
+        begin_unknown(&mut signals, request.netlist);
+    }
+    Ok(signals)
 }
 
 /// The statements of the cells, which name those signals that need a name.
@@ -229,7 +260,8 @@ fn write_with(
     uses: &Uses,
     clocks: &Clocks,
 ) -> Result<Written, Fault> {
-    let within = all_within(alloc, request.netlist, uses, !request.delays.is_empty())?;
+    let has_delays = request.netlist.has_paths || !request.delays.is_empty();
+    let within = all_within(alloc, request.netlist, uses, has_delays)?;
     let mut statements = cell_statements(alloc, request, uses, within.as_slice())?;
     finish(&mut statements, request, uses, clocks)
 }

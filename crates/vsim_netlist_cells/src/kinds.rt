@@ -1,12 +1,12 @@
 //! The cells of a module, by their types.
 
 use crate::document::{WrittenBit, WrittenCell};
-use crate::library_cells::library_cells;
+use crate::library_cells::{Parts, library_cells};
 use crate::nets::Nets;
 use crate::registers::letters;
 use std::alloc::Global;
 use vsim_netlist_design::{
-    Bit, Cell, Control, Draft, Fault, Gate, GateCell, Level, Library, Register, Style, push,
+    Bit, Cell, Control, Delays, Draft, Fault, Gate, GateCell, Level, Library, Register, Style, push,
 };
 
 /// Where cells are made, and the library of those that are not Yosys' own.
@@ -14,6 +14,10 @@ use vsim_netlist_design::{
 pub(crate) struct Site<'a> {
     pub(crate) alloc: Global,
     pub(crate) library: &'a Library,
+    /// The delays of a file, if there is one.
+    pub(crate) delays: Option<&'a Delays>,
+    /// The level with which registers and latches begin, if it is given.
+    pub(crate) initial: Option<Level>,
 }
 
 /// The maximum number of inputs of a look-up table.
@@ -370,28 +374,33 @@ fn own_cell(
     }
 }
 
-/// Reads a cell of Yosys' library: one, or none if it has no effect in a simulation.
-fn own_cells(
-    alloc: Global,
-    cell: &WrittenCell,
-    nets: &mut Nets,
-    has_library: bool,
-) -> Result<Vec<Cell>, Fault> {
-    let mut cells = Vec::new(alloc);
-    if let Some(cell) = own_cell(alloc, cell, nets, has_library)? {
-        push(&mut cells, cell)?;
+/// Sets the level with which a register begins, if it is given.
+fn begin(site: Site<'_>, nets: &mut Nets, cell: &Cell) {
+    if let (Cell::Register(register), Some(level)) = (cell, site.initial) {
+        nets.set_initial(register.output, level);
     }
-    Ok(cells)
+}
+
+/// Reads a cell of Yosys' library: one, or none if it has no effect in a simulation.
+fn own_cells(site: Site<'_>, cell: &WrittenCell, nets: &mut Nets) -> Result<Parts, Fault> {
+    let mut parts = Parts::new(site.alloc);
+    let has_library = !site.library.is_empty();
+    if let Some(cell) = own_cell(site.alloc, cell, nets, has_library)? {
+        begin(site, nets, &cell);
+        parts.put(cell, None)?;
+    }
+    Ok(parts)
 }
 
 /// Reads a cell: the gates and registers that make it up, none if it has no effect in a simulation.
 pub(crate) fn make_cells(
     site: Site<'_>,
+    name: &str,
     cell: &WrittenCell,
     nets: &mut Nets,
-) -> Result<Vec<Cell>, Fault> {
+) -> Result<Parts, Fault> {
     match site.library.find(cell.kind.as_str()) {
-        Some(entry) => library_cells(site.alloc, cell, nets, entry),
-        None => own_cells(site.alloc, cell, nets, !site.library.is_empty()),
+        Some(entry) => library_cells(site, name, cell, nets, entry),
+        None => own_cells(site, cell, nets),
     }
 }

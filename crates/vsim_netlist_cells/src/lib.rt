@@ -3,10 +3,13 @@
 
 mod document;
 mod kinds;
+mod late_inputs;
 mod library_cells;
+mod logic;
 mod modules;
 mod nets;
 mod object;
 mod registers;
+mod timings;
 
 pub use modules::read_netlist;

@@ -1,11 +1,18 @@
 //! The cells of a library, as gates and registers.
 
 use crate::document::{WrittenBit, WrittenCell};
+use crate::kinds::Site;
+use crate::logic::{
+    conflict_of, gate_of, has_plain_controls, is_read_inside, is_variable, level_after, level_of,
+    may_read, reads, steps_of, style_of,
+};
 use crate::nets::Nets;
+use crate::timings::{Connected, Timed};
 use std::alloc::{AllocError, Global};
 use vsim_netlist_design::{
     Bit, Cell, Conflict, Control, Fault, Function, Gate, GateCell, Level, LibraryCell,
-    LibraryEntry, LibraryPin, LibraryState, Register, Source, Step, Style, Variant, push,
+    LibraryEntry, LibraryPin, LibraryState, PathDelay, Register, Source, Step, Timing, Variant,
+    push,
 };
 
 /// A cell that is being made: the bits of its pins and the nets of its register's variables, as far
@@ -17,104 +24,46 @@ struct Making<'a> {
     bits: Vec<Option<Bit>>,
     plain: Option<usize>,
     negated: Option<usize>,
-    cells: Vec<Cell>,
+    timed: Option<&'a Timed<'a>>,
+    /// The level with which its register begins, if it is given.
+    initial: Option<Level>,
+    parts: Parts,
+}
+
+/// The gates and registers that make up a cell, each with its delays if a file has them.
+#[derive(Drop)]
+pub(crate) struct Parts {
+    pub(crate) cells: Vec<Cell>,
+    pub(crate) timings: Vec<Option<Timing>>,
+}
+
+impl Parts {
+    /// Nothing.
+    pub(crate) fn new(alloc: Global) -> Parts {
+        Parts {
+            cells: Vec::new(alloc),
+            timings: Vec::new(alloc),
+        }
+    }
+
+    /// Adds a gate or a register.
+    pub(crate) fn put(&mut self, cell: Cell, timing: Option<Timing>) -> Result<(), AllocError> {
+        push(&mut self.cells, cell)?;
+        push(&mut self.timings, timing)
+    }
+
+    /// Sets the delays of the last one.
+    fn time_last(&mut self, timing: Timing) {
+        let place = self.timings.len().saturating_sub(1);
+        if let Some(last) = self.timings.get_mut(place) {
+            *last = Some(timing);
+        }
+    }
 }
 
 /// The refusal of a pin, after its name.
 fn fault_of_pin<'a>(alloc: Global, name: &'a str, told: &'a str) -> Fault {
     Fault::of(alloc, &["its pin ", name, told])
-}
-
-/// The level of a constant, or its negation.
-fn level_of(level: Level, is_negated: bool) -> Level {
-    match (level, is_negated) {
-        (Level::Zero, true) => Level::One,
-        (Level::One, true) => Level::Zero,
-        _ => level,
-    }
-}
-
-/// Whether a function has a variable among its inputs.
-fn reads(function: &Function, variant: Variant) -> bool {
-    for source in function.inputs.iter() {
-        if *source == Source::Variable(variant) {
-            return true;
-        }
-    }
-    false
-}
-
-/// Whether a function, if there is one, has a variable among its inputs.
-fn may_read(function: &Option<Function>, variant: Variant) -> bool {
-    match function {
-        Some(function) => reads(function, variant),
-        None => false,
-    }
-}
-
-/// Whether any function of a register reads a variable.
-fn is_read_inside(state: &LibraryState, variant: Variant) -> bool {
-    may_read(&state.clock, variant)
-        || may_read(&state.data, variant)
-        || may_read(&state.clear, variant)
-        || may_read(&state.preset, variant)
-}
-
-/// Whether the output of a pin is a variable itself.
-fn is_variable(pin: &LibraryPin, variant: Variant) -> bool {
-    match &pin.function {
-        Some(function) if pin.three_state.is_none() => {
-            function.gate == Gate::Buf && reads(function, variant)
-        }
-        _ => false,
-    }
-}
-
-/// The steps of a function, or of its negation.
-fn steps_of(function: &Function, is_negated: bool) -> Result<Vec<Step>, AllocError> {
-    let mut steps = function.steps.clone()?;
-    if is_negated && !steps.is_empty() {
-        push(&mut steps, Step::Not)?;
-    }
-    Ok(steps)
-}
-
-/// The gate of a function, or of its negation.
-fn gate_of(function: &Function, is_negated: bool) -> Gate {
-    match (function.gate, is_negated) {
-        (gate, false) => gate,
-        (Gate::Mux, true) => Gate::Nmux,
-        (Gate::Nmux, true) => Gate::Mux,
-        _ => Gate::Function,
-    }
-}
-
-/// The level at which a variable is cleared, or preset.
-fn level_after(variant: Variant, is_clear: bool) -> Level {
-    if is_clear == (variant == Variant::Plain) {
-        Level::Zero
-    } else {
-        Level::One
-    }
-}
-
-/// What a variable is while its register is both cleared and preset.
-fn conflict_of(state: &LibraryState, variant: Variant) -> Conflict {
-    match variant {
-        Variant::Plain => state.plain,
-        Variant::Negated => state.negated,
-    }
-}
-
-/// The style of a register, by what it has.
-fn style_of(state: &LibraryState) -> Style {
-    match (state.clear.is_some(), state.preset.is_some()) {
-        _ if state.is_latch && state.clock.is_none() => Style::Bare,
-        _ if state.is_latch => Style::Latch,
-        (true, true) => Style::SetReset,
-        (false, false) => Style::Plain,
-        _ => Style::Asynchronous,
-    }
 }
 
 impl Making<'_> {
@@ -163,7 +112,58 @@ impl Making<'_> {
 
     /// Adds a gate or a register.
     fn put(&mut self, cell: Cell) -> Result<(), Fault> {
-        Ok(push(&mut self.cells, cell)?)
+        Ok(self.parts.put(cell, None)?)
+    }
+
+    /// Gives the last gate or register the delays of the paths to an output, if a file has them.
+    fn time(&mut self, output: &str) -> Result<(), Fault> {
+        let Some(timed) = self.timed else {
+            return Ok(());
+        };
+        let (model, bits) = (self.model, self.bits.as_slice());
+        let timing = timed.timing(Connected { model, bits }, output)?;
+        self.parts.time_last(timing);
+        Ok(())
+    }
+
+    /// The output that is a variable itself, if it is connected.
+    fn own_output(&self, variant: Variant) -> Option<&LibraryPin> {
+        let model = self.model;
+        for (place, pin) in model.pins.iter().enumerate() {
+            if self.drives(place, pin) && is_variable(pin, variant) {
+                return Some(pin);
+            }
+        }
+        None
+    }
+
+    /// Gives a register the delays of the paths to its output, if a file has them.
+    fn time_register(&mut self, state: &LibraryState, variant: Variant) -> Result<(), Fault> {
+        if self.timed.is_none() {
+            return Ok(());
+        }
+        let told = "a register whose output or control is a formula is not supported with --sdf";
+        let name = match self.own_output(variant) {
+            Some(pin) if has_plain_controls(state) => pin.name.clone()?,
+            _ => return Err(Fault::of(self.alloc, &[told])),
+        };
+        self.time(name.as_str())
+    }
+
+    /// Gives a gate the delays of the paths to its output, if a file has them and it has inputs.
+    fn time_gate(&mut self, function: &Function, output: &str) -> Result<(), Fault> {
+        if function.inputs.is_empty() || self.timed.is_none() {
+            return Ok(());
+        }
+        if reads(function, Variant::Plain) || reads(function, Variant::Negated) {
+            let told = [
+                "its output ",
+                output,
+                " is a formula of its register, which is not supported with --sdf",
+            ];
+            return Err(Fault::of(self.alloc, told.as_slice()));
+        }
+        self.time(output)
     }
 
     /// Adds a gate.
@@ -283,10 +283,14 @@ impl Making<'_> {
         let Some(output) = self.net(variant) else {
             return Ok(());
         };
+        if let Some(level) = self.initial {
+            nets.set_initial(output, level_of(level, variant == Variant::Negated));
+        }
         let mut register = Register::new(style_of(state), output);
         self.fill_data(nets, state, variant, &mut register)?;
         self.fill_levels(nets, state, variant, &mut register)?;
-        self.put(Cell::Register(register))
+        self.put(Cell::Register(register))?;
+        self.time_register(state, variant)
     }
 
     /// Whether a pin is an output that is connected.
@@ -453,8 +457,14 @@ impl Making<'_> {
                 Err(fault_of_pin(self.alloc, name, " has no function in its Liberty file"))
             }
             (Some(_), None) if self.is_register(pin, output) => Ok(()),
-            (Some(function), None) => self.put_gate(function, false, output, false),
-            (Some(function), Some(enable)) => self.put_tristate(nets, function, enable, output),
+            (Some(function), None) => {
+                self.put_gate(function, false, output, false)?;
+                self.time_gate(function, pin.name.as_str())
+            }
+            (Some(function), Some(enable)) => {
+                self.put_tristate(nets, function, enable, output)?;
+                self.time_gate(function, pin.name.as_str())
+            }
         }
     }
 
@@ -559,13 +569,97 @@ fn connections(
     Ok(bits)
 }
 
-/// The gates and registers that make up a cell of this kind.
+/// A buffer inside of a cell, from one net to another.
+pub(crate) fn buffer(alloc: Global, from: usize, to: usize) -> Result<Cell, AllocError> {
+    let mut inputs = Vec::new(alloc);
+    push(&mut inputs, Bit::Net(from))?;
+    Ok(Cell::Gate(GateCell {
+        gate: Gate::Buf,
+        inputs,
+        output: to,
+        table: None,
+        steps: Vec::new(alloc),
+        is_inner: true,
+        is_low: false,
+    }))
+}
+
+/// The delays of a wire.
+fn timing_of(alloc: Global, path: PathDelay) -> Result<Timing, AllocError> {
+    let mut paths = Vec::new(alloc);
+    push(&mut paths, path)?;
+    Ok(Timing {
+        paths,
+        conditions: Vec::new(alloc),
+    })
+}
+
+impl Making<'_> {
+    /// Adds a wire that takes time, and returns the net at its end.
+    fn put_wire(&mut self, nets: &mut Nets, path: PathDelay) -> Result<usize, AllocError> {
+        let end = nets.add()?;
+        self.put_buffer(path, end)?;
+        Ok(end)
+    }
+
+    /// Adds a buffer with the delay of a wire.
+    fn put_buffer(&mut self, path: PathDelay, end: usize) -> Result<(), AllocError> {
+        let timing = timing_of(self.alloc, path)?;
+        let buffer = buffer(self.alloc, path.from, end)?;
+        self.parts.put(buffer, Some(timing))
+    }
+
+    /// Puts the wire to the pin at a place before it, if it takes time.
+    fn lengthen(
+        &mut self,
+        nets: &mut Nets,
+        timed: &Timed<'_>,
+        place: usize,
+        pin: &LibraryPin,
+    ) -> Result<(), AllocError> {
+        let from = match self.bits.get(place) {
+            Some(Some(Bit::Net(net))) if !pin.is_output => *net,
+            _ => return Ok(()),
+        };
+        let Some(path) = timed.wire(pin.name.as_str(), from) else {
+            return Ok(());
+        };
+        let end = self.put_wire(nets, path)?;
+        if let Some(bit) = self.bits.get_mut(place) {
+            *bit = Some(Bit::Net(end));
+        }
+        Ok(())
+    }
+
+    /// Puts wires before the inputs, if a file says that they take time.
+    fn put_wires(&mut self, nets: &mut Nets) -> Result<(), AllocError> {
+        let Some(timed) = self.timed else {
+            return Ok(());
+        };
+        let model = self.model;
+        for (place, pin) in model.pins.iter().enumerate() {
+            self.lengthen(nets, timed, place, pin)?;
+        }
+        Ok(())
+    }
+
+    /// Adds all parts.
+    fn put_all(&mut self, nets: &mut Nets) -> Result<(), Fault> {
+        self.put_wires(nets)?;
+        self.put_registers(nets)?;
+        self.put_outputs(nets)
+    }
+}
+
+/// The gates and registers that make up a cell of this kind, which may have delays of a file.
 fn parts_of(
-    alloc: Global,
+    site: Site<'_>,
     cell: &WrittenCell,
     nets: &mut Nets,
     model: &LibraryCell,
-) -> Result<Vec<Cell>, Fault> {
+    timed: Option<&Timed<'_>>,
+) -> Result<Parts, Fault> {
+    let alloc = site.alloc;
     let bits = connections(alloc, nets, model, cell)?;
     let mut making = Making {
         alloc,
@@ -573,22 +667,39 @@ fn parts_of(
         bits,
         plain: None,
         negated: None,
-        cells: Vec::new(alloc),
+        timed,
+        initial: site.initial,
+        parts: Parts::new(alloc),
     };
-    making.put_registers(nets)?;
-    making.put_outputs(nets)?;
-    Ok(making.cells)
+    making.put_all(nets)?;
+    Ok(making.parts)
+}
+
+/// The same with the delays of an instance.
+fn timed_parts_of(
+    site: Site<'_>,
+    name: &str,
+    cell: &WrittenCell,
+    nets: &mut Nets,
+    model: &LibraryCell,
+) -> Result<Parts, Fault> {
+    let Some(delays) = site.delays else {
+        return parts_of(site, cell, nets, model, None);
+    };
+    let timed = Timed::new(site.alloc, delays, name, cell.kind.as_str())?;
+    parts_of(site, cell, nets, model, Some(&timed))
 }
 
 /// The gates and registers that make up a cell of a library.
 pub(crate) fn library_cells(
-    alloc: Global,
+    site: Site<'_>,
+    name: &str,
     cell: &WrittenCell,
     nets: &mut Nets,
     entry: &LibraryEntry,
-) -> Result<Vec<Cell>, Fault> {
+) -> Result<Parts, Fault> {
     match entry {
-        LibraryEntry::Known(model) => parts_of(alloc, cell, nets, model),
-        LibraryEntry::Refused(told) => Err(Fault::of(alloc, &[told.as_str()])),
+        LibraryEntry::Known(model) => timed_parts_of(site, name, cell, nets, model),
+        LibraryEntry::Refused(told) => Err(Fault::of(site.alloc, &[told.as_str()])),
     }
 }

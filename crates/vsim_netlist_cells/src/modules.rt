@@ -2,10 +2,12 @@
 
 use crate::document::{Document, Members, Module, WrittenCell, WrittenName, WrittenPort};
 use crate::kinds::{Site, make_cells};
+use crate::late_inputs::read_inputs_late;
+use crate::library_cells::Parts;
 use crate::nets::Nets;
 use indexmap::IndexSet;
 use std::alloc::{AllocError, Global};
-use vsim_netlist_design::{Cell, Draft, Fault, Library, Netlist, Port, Variable, push};
+use vsim_netlist_design::{Delays, Draft, Fault, Level, Library, Netlist, Port, Variable, push};
 
 /// Whether a module is marked as the top.
 fn is_top(module: &Module) -> bool {
@@ -138,9 +140,9 @@ fn placed_cells(
     nets: &mut Nets,
     name: &str,
     written: &WrittenCell,
-) -> Result<Vec<Cell>, Fault> {
-    match make_cells(site, written, nets) {
-        Ok(cells) => Ok(cells),
+) -> Result<Parts, Fault> {
+    match make_cells(site, name, written, nets) {
+        Ok(parts) => Ok(parts),
         Err(fault) => Err(about_cell(site.alloc, fault, name, written)),
     }
 }
@@ -169,6 +171,23 @@ fn put_origins(origins: &mut Vec<String>, origin: &String, count: usize) -> Resu
     Ok(())
 }
 
+/// Adds the cells that make up one, with their delays.
+fn append(netlist: &mut Netlist, parts: &mut Parts) -> Result<(), AllocError> {
+    netlist.cells.append(&mut parts.cells)?;
+    netlist.timings.append(&mut parts.timings)
+}
+
+/// Notes that a cell has the name of an instance of which a file has delays, if it has.
+fn note_instance(site: Site<'_>, netlist: &mut Netlist, name: &str) {
+    let Some(delays) = site.delays else {
+        return;
+    };
+    let place = delays.instances.find(name).unwrap_or(usize::MAX);
+    if let Some(is_there) = netlist.instances.get_mut(place) {
+        *is_there = true;
+    }
+}
+
 /// Adds the cells that make up one, none if that has no effect in a simulation.
 fn put_parts_of_cell(
     site: Site<'_>,
@@ -178,9 +197,9 @@ fn put_parts_of_cell(
     written: &WrittenCell,
     origin: &String,
 ) -> Result<(), Fault> {
-    let mut cells = placed_cells(site, nets, name, written)?;
-    put_origins(&mut netlist.origins, origin, cells.len())?;
-    Ok(netlist.cells.append(&mut cells)?)
+    let mut parts = placed_cells(site, nets, name, written)?;
+    put_origins(&mut netlist.origins, origin, parts.cells.len())?;
+    Ok(append(netlist, &mut parts)?)
 }
 
 /// Adds a cell whose name is not among these, and notes its name.
@@ -194,6 +213,7 @@ fn put_new_cell(
 ) -> Result<(), Fault> {
     let origin = origin(site.alloc, name.as_str(), written)?;
     note(site.alloc, names, name, origin.as_str())?;
+    note_instance(site, netlist, name.as_str());
     put_parts_of_cell(site, nets, netlist, name.as_str(), written, &origin)
 }
 
@@ -288,6 +308,23 @@ fn put_variables(
     put_each_variable(alloc, nets, &mut netlist.variables, &escaped, written)
 }
 
+/// Lets registers read inputs a delta cycle later, if cells have delays of a file.
+fn put_late_inputs(site: Site<'_>, nets: &mut Nets, netlist: &mut Netlist) -> Result<(), Fault> {
+    if site.delays.is_none() {
+        return Ok(());
+    }
+    let mut parts = Parts::new(site.alloc);
+    read_inputs_late(site.alloc, nets, netlist, &mut parts)?;
+    Ok(append_late(site.alloc, netlist, &mut parts)?)
+}
+
+/// Adds the cells by which registers read inputs late.
+fn append_late(alloc: Global, netlist: &mut Netlist, parts: &mut Parts) -> Result<(), AllocError> {
+    let origin = String::from_str(alloc, "an input")?;
+    put_origins(&mut netlist.origins, &origin, parts.cells.len())?;
+    append(netlist, parts)
+}
+
 /// Adds the ports, cells and names of a module.
 fn put_parts(
     site: Site<'_>,
@@ -305,8 +342,17 @@ fn put_parts(
 fn put_module(site: Site<'_>, netlist: &mut Netlist, module: &Module) -> Result<(), Fault> {
     let mut nets = Nets::new(site.alloc);
     put_parts(site, &mut nets, netlist, module)?;
+    put_late_inputs(site, &mut nets, netlist)?;
     netlist.nets = nets.nets;
     Ok(())
+}
+
+/// The number of instances of which a file has delays.
+fn count_instances(site: Site<'_>) -> usize {
+    match site.delays {
+        Some(delays) => delays.instances.lists.len(),
+        None => 0,
+    }
 }
 
 /// Reads the netlist of a module.
@@ -318,6 +364,9 @@ fn make_netlist(site: Site<'_>, name: &str, module: &Module) -> Result<Netlist, 
         ports: Vec::new(alloc),
         cells: Vec::new(alloc),
         origins: Vec::new(alloc),
+        has_paths: site.delays.is_some(),
+        timings: Vec::new(alloc),
+        instances: vec![in alloc; false; count_instances(site)]?,
         variables: Vec::new(alloc),
         nets: Vec::new(alloc),
     };
@@ -364,13 +413,23 @@ fn read_document(alloc: Global, text: &str) -> Result<Document, Fault> {
 }
 
 /// Reads the netlist of the module with this name, or of the one marked as the top. Its cells are
-/// those of Yosys, and those of this library.
+/// those of Yosys, and those of this library, which may have the delays of a file. Registers and
+/// latches begin with this level, unless the netlist says with which, or if there is none as the
+/// text begins them.
 pub fn read_netlist(
     alloc: Global,
     text: &str,
     top: Option<&str>,
     library: &Library,
+    delays: Option<&Delays>,
+    initial: Option<Level>,
 ) -> Result<Netlist, Fault> {
     let document = read_document(alloc, text)?;
-    wanted_netlist(Site { alloc, library }, &document, top)
+    let site = Site {
+        alloc,
+        library,
+        delays,
+        initial,
+    };
+    wanted_netlist(site, &document, top)
 }

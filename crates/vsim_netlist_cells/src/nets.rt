@@ -81,6 +81,13 @@ impl Nets {
         }
     }
 
+    /// Sets the initial level of the net at an index.
+    pub(crate) fn set_initial(&mut self, place: usize, level: Level) {
+        if let Some(net) = self.nets.get_mut(place) {
+            net.initial = Some(level);
+        }
+    }
+
     /// Sets the initial level of a net, if the letter is 0 or 1.
     fn begin(&mut self, bit: Bit, letter: u8) {
         let level = match Level::from_byte(letter) {
@@ -89,9 +96,7 @@ impl Nets {
             _ => return,
         };
         if let Bit::Net(place) = bit {
-            if let Some(net) = self.nets.get_mut(place) {
-                net.initial = Some(level);
-            }
+            self.set_initial(place, level);
         }
     }
 

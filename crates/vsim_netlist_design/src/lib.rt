@@ -2,7 +2,9 @@
 //! stimuli; and texts.
 #![tactic(auto)]
 
+mod arcs;
 mod bits;
+mod delays;
 mod fault;
 mod gates;
 mod level;
@@ -12,10 +14,16 @@ mod netlist;
 mod registers;
 mod stimuli;
 mod times;
+mod timing;
 mod writing;
 
+pub use arcs::{Arc, Arcs, arcs_to, wire_to};
 pub use bits::Bit;
-pub use fault::Fault;
+pub use delays::{
+    Condition, DelayEntry, DelayList, DelayTable, Delayed, Delays, Edge, NameList, Passed, Path,
+    PinPlace, Times, When,
+};
+pub use fault::{Fault, fault_at, line_of};
 pub use gates::{Gate, GateCell};
 pub use level::Level;
 pub use library::{
@@ -27,4 +35,5 @@ pub use netlist::{Cell, Net, Netlist, Port, Variable};
 pub use registers::{Control, Register, Style};
 pub use stimuli::{Change, Stimuli};
 pub use times::push_time;
+pub use timing::{PathCondition, PathDelay, Timing};
 pub use writing::Draft;

@@ -4,6 +4,7 @@ use crate::bits::Bit;
 use crate::gates::GateCell;
 use crate::level::Level;
 use crate::registers::Register;
+use crate::timing::Timing;
 
 /// A cell.
 #[derive(Drop)]
@@ -44,6 +45,12 @@ pub struct Netlist {
     pub cells: Vec<Cell>,
     /// For each cell its name, after its place in the source if that is known.
     pub origins: Vec<String>,
+    /// Whether a file has delays of paths.
+    pub has_paths: bool,
+    /// For each cell its delays, if that file has them.
+    pub timings: Vec<Option<Timing>>,
+    /// For each instance of which a file has delays, whether there is a cell with its name.
+    pub instances: Vec<bool>,
     pub variables: Vec<Variable>,
     pub nets: Vec<Net>,
 }

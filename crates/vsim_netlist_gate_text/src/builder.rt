@@ -1,11 +1,14 @@
 //! The gates and registers of a netlist as statements.
 
 use crate::processes::{Conditions, Process};
+use crate::timed::{computation, enabled_computation, timed};
 use indexmap::IndexSet;
 use std::alloc::{AllocError, Global};
 use vsim_netlist_design::{
-    Bit, Cell, Conflict, Control, Draft, Gate, GateCell, Level, Netlist, Register, Style, push,
+    Bit, Cell, Conflict, Control, Draft, Gate, GateCell, Level, Netlist, Register, Style, Timing,
+    push,
 };
+use vsim_netlist_entities::{TimedProcess, put_processes};
 use vsim_netlist_signals::{
     Delay, Expression, NamedDelay, Statements, delay_of, function_expression, gate_expression,
     literal, named, push_assignment, push_literal, push_stored, push_tristate,
@@ -27,6 +30,8 @@ struct Builder<'a> {
     expressions: Vec<Option<Expression>>,
     keys: IndexSet<String>,
     groups: Vec<Process>,
+    /// The processes with delays of paths.
+    timed: Vec<TimedProcess>,
 }
 
 impl Drop for Builder<'_> {
@@ -215,6 +220,7 @@ impl<'a> Builder<'a> {
             expressions,
             keys: IndexSet::new(alloc),
             groups: Vec::new(alloc),
+            timed: Vec::new(alloc),
         })
     }
 
@@ -230,6 +236,7 @@ impl<'a> Builder<'a> {
             expressions: _expressions,
             keys: _keys,
             groups: _groups,
+            timed: _timed,
         } = self;
         statements
     }
@@ -385,12 +392,148 @@ impl<'a> Builder<'a> {
         }
     }
 
+    /// The gate inside of a cell that drives a bit, if there is one.
+    fn inner_gate(&self, bit: Bit) -> Option<&'a GateCell> {
+        let (netlist, uses) = (self.netlist, self.uses);
+        let Bit::Net(place) = bit else {
+            return None;
+        };
+        let driver = uses.nets.get(place)?.driver;
+        match (netlist.cells.get(driver), netlist.timings.get(driver)) {
+            (Some(Cell::Gate(gate)), Some(None)) if gate.is_inner && gate.output == place => {
+                Some(gate)
+            }
+            _ => None,
+        }
+    }
+
+    /// A bit as an expression in a process with delays of paths. A gate inside of the same cell is
+    /// a part of it, so that both see a change at once.
+    fn whole_operand(&mut self, bit: Bit) -> Result<Expression, AllocError> {
+        match self.inner_gate(bit) {
+            Some(gate) => self.expression(gate),
+            None => Ok(self.operand(bit)),
+        }
+    }
+
+    /// The same as an operand of a comparison: one of literals alone is a signal.
+    fn condition_operand(&mut self, bit: Bit) -> Result<Expression, AllocError> {
+        let operand = self.whole_operand(bit)?;
+        if operand.has_name {
+            return Ok(operand);
+        }
+        Ok(named(self.alloc, self.statements.bit_name(bit)))
+    }
+
+    /// The data of a three-state buffer with delays of its paths.
+    fn timed_value(&mut self, gate: &GateCell, data: &[Bit]) -> Result<Expression, AllocError> {
+        match data {
+            [bit] if gate.steps.is_empty() => self.whole_operand(*bit),
+            _ => self.tristate_value(gate, data),
+        }
+    }
+
+    /// The value of a three-state buffer with delays of its paths, if it is connected.
+    fn enabled(&mut self, gate: &GateCell) -> Result<Draft, AllocError> {
+        let [data @ .., enable] = gate.inputs.as_slice() else {
+            return Ok(Draft::new(self.alloc));
+        };
+        let value = self.timed_value(gate, data)?;
+        let enable = self.condition_operand(*enable)?;
+        Ok(enabled_computation(self.alloc, &value, &enable, !gate.is_low))
+    }
+
+    /// The data of a register with delays of its paths, if they are connected.
+    fn timed_data(&mut self, register: &Register) -> Result<Option<Expression>, AllocError> {
+        match register.data {
+            Some(bit) if register.clock.is_none() => Ok(Some(self.whole_operand(bit)?)),
+            data => Ok(self.stored(data)),
+        }
+    }
+
+    /// Adds the process of a net whose new value these statements compute.
+    fn put_timed(
+        &mut self,
+        place: usize,
+        timing: &Timing,
+        computed: &Draft,
+        initial: Option<Level>,
+    ) -> Result<(), AllocError> {
+        let process = timed(&mut self.statements, place, timing, computed, initial)?;
+        push(&mut self.timed, process)
+    }
+
+    /// Adds a gate with the delays of its paths.
+    fn take_timed_gate(&mut self, gate: &GateCell, timing: &Timing) -> Result<(), AllocError> {
+        if gate.gate == Gate::Tristate {
+            let (computed, first) = (self.enabled(gate)?, Some(Level::Unknown));
+            return self.put_timed(gate.output, timing, &computed, first);
+        }
+        let expression = self.expression(gate)?;
+        if let Some(delay) = timing.only() {
+            let (rise, fall) = (delay, delay);
+            assign(
+                &mut self.statements,
+                gate.output,
+                &expression,
+                Delay { rise, fall },
+            );
+            return Ok(());
+        }
+        let computed = computation(self.alloc, &expression);
+        self.put_timed(gate.output, timing, &computed, None)
+    }
+
+    /// The statements that compute the new value of a register.
+    fn computed(&mut self, register: &Register) -> Result<Draft, AllocError> {
+        let conditions = conditions(&mut self.statements, register);
+        let list = Draft::new(self.alloc);
+        let mut process = Process::new(self.alloc, register.style, list, conditions);
+        compute_levels(&mut process, register);
+        let data = self.timed_data(register)?;
+        compute(self.alloc, &mut process.data, &data);
+        let mut text = Draft::new(self.alloc);
+        process.push_statements(self.alloc, &mut text);
+        Ok(text)
+    }
+
+    /// Adds a register with the delays of its paths.
+    fn take_timed_register(
+        &mut self,
+        register: &Register,
+        timing: &Timing,
+    ) -> Result<(), AllocError> {
+        let computed = self.computed(register)?;
+        let initial = match self.netlist.nets.get(register.output) {
+            Some(net) => net.initial,
+            None => None,
+        };
+        self.put_timed(register.output, timing, &computed, initial)
+    }
+
+    /// Adds a cell with the delays of its paths.
+    fn take_timed(&mut self, cell: &Cell, timing: &Timing) -> Result<(), AllocError> {
+        match cell {
+            Cell::Gate(gate) => self.take_timed_gate(gate, timing),
+            Cell::Register(register) => self.take_timed_register(register, timing),
+        }
+    }
+
+    /// Adds a cell without them.
+    fn take_plain(&mut self, cell: &Cell) -> Result<(), AllocError> {
+        match cell {
+            Cell::Gate(gate) => self.take_gate(gate),
+            Cell::Register(register) => self.take_register(register),
+        }
+    }
+
     /// Adds the cell at an index.
     fn take_cell(&mut self, place: usize) -> Result<(), AllocError> {
-        match self.netlist.cells.get(place) {
-            Some(Cell::Gate(gate)) => self.take_gate(gate),
-            Some(Cell::Register(register)) => self.take_register(register),
-            None => Ok(()),
+        let netlist = self.netlist;
+        match (netlist.cells.get(place), netlist.timings.get(place)) {
+            (Some(cell), Some(Some(timing))) => self.take_timed(cell, timing),
+            (Some(cell), _) => self.take_plain(cell),
+            (None, _) => Ok(()),
         }
     }
 
@@ -409,10 +552,11 @@ impl<'a> Builder<'a> {
     }
 
     /// Writes the processes.
-    fn put_processes(&mut self) {
+    fn put_processes(&mut self) -> Result<(), AllocError> {
         for process in self.groups.iter() {
             process.push(self.alloc, &mut self.statements.body);
         }
+        put_processes(&mut self.statements, self.timed.as_slice())
     }
 }
 
@@ -442,6 +586,33 @@ fn fill_levels(process: &mut Process, register: &Register, target: &str, delay: 
         push_literal(&mut process.set, target, level.literal(), delay.to(level));
     }
     fill_conflict(process, register, target, delay);
+}
+
+/// Adds the computation of a register's value, if there is one.
+fn compute(alloc: Global, text: &mut Draft, value: &Option<Expression>) {
+    if let Some(value) = value {
+        text.push_draft(&computation(alloc, value));
+    }
+}
+
+/// Adds the computation of a level.
+fn compute_level(text: &mut Draft, level: Level) {
+    text.push_all(&["n:=", level.literal(), ";"]);
+}
+
+/// Adds the computations of what a register's set and reset give.
+fn compute_levels(process: &mut Process, register: &Register) {
+    if register.reset.is_some() {
+        compute_level(&mut process.reset, register.value);
+    }
+    if register.set.is_some() {
+        compute_level(&mut process.set, level_of_set(register.value));
+    }
+    match register.conflict {
+        Some(Conflict::Level(level)) => compute_level(&mut process.conflict, level),
+        Some(Conflict::Kept) => process.conflict.push("null;"),
+        None => {}
+    }
 }
 
 /// The value that a set gives, given that of the reset.
@@ -479,6 +650,6 @@ pub fn put_cells(
 ) -> Result<Statements, AllocError> {
     let mut builder = Builder::new(statements, netlist, delays, uses, within)?;
     builder.take_cells()?;
-    builder.put_processes();
+    builder.put_processes()?;
     Ok(builder.into_statements())
 }

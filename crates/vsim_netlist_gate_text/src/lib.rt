@@ -2,6 +2,8 @@
 #![tactic(auto)]
 
 mod builder;
+mod ladders;
 mod processes;
+mod timed;
 
 pub use builder::put_cells;

@@ -151,15 +151,20 @@ impl Process {
         self.push_inside(text, inner);
     }
 
+    /// Adds its statements.
+    pub(crate) fn push_statements(&self, alloc: Global, text: &mut Draft) {
+        match self.style {
+            Style::Synchronous | Style::SynchronousEnabled => self.push_at_edge(alloc, text),
+            _ => self.push_at_any_time(alloc, text),
+        }
+    }
+
     /// Adds the process.
     pub(crate) fn push(&self, alloc: Global, text: &mut Draft) {
         text.push("process(");
         text.push_draft(&self.sensitivity);
         text.push(")begin ");
-        match self.style {
-            Style::Synchronous | Style::SynchronousEnabled => self.push_at_edge(alloc, text),
-            _ => self.push_at_any_time(alloc, text),
-        }
+        self.push_statements(alloc, text);
         text.push("end process;\n");
     }
 }

@@ -4,8 +4,7 @@ use crate::marks::{Mark, marks_of};
 use crate::pins::Names;
 use crate::tables::known_function;
 use std::alloc::{AllocError, Global};
-use vsim_netlist_design::{Draft, Fault, Function, Level, Source, Step, push};
-use vsim_netlist_liberty_text::line_of;
+use vsim_netlist_design::{Draft, Fault, Function, Level, Source, Step, line_of, push};
 
 /// The maximum number of steps of a function.
 const MOST_STEPS: usize = 500;

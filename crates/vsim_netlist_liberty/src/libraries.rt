@@ -2,10 +2,10 @@
 
 use crate::models::entry_of;
 use std::alloc::Global;
-use vsim_netlist_design::{Draft, Fault, Library};
+use vsim_netlist_design::{Draft, Fault, Library, fault_at};
 use vsim_netlist_liberty_text::{
-    Form, Statement, Tokens, WrittenCell, fault_at, read_cell, read_statement, skip_group,
-    tokens_of, unexpected,
+    Form, Statement, Tokens, WrittenCell, read_cell, read_statement, skip_group, tokens_of,
+    unexpected,
 };
 
 /// The library that is read, and the file as a refusal names it.

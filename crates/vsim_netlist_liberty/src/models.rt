@@ -6,9 +6,9 @@ use std::alloc::Global;
 use std::collections::HashMap;
 use vsim_netlist_design::{
     Conflict, Draft, Fault, Function, Level, LibraryCell, LibraryEntry, LibraryPin, LibraryState,
-    push,
+    fault_at, push,
 };
-use vsim_netlist_liberty_text::{Formula, WrittenCell, WrittenPin, WrittenState, fault_at};
+use vsim_netlist_liberty_text::{Formula, WrittenCell, WrittenPin, WrittenState};
 
 /// A fault on a line of a cell.
 fn fault_of(alloc: Global, line: usize, cell: &str, told: &str) -> Fault {

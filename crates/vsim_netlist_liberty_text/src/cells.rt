@@ -1,9 +1,9 @@
 //! The cells of a Liberty file, as they are written.
 
-use crate::statements::{Form, Statement, fault_at, read_statement, skip_group, unexpected};
+use crate::statements::{Form, Statement, read_statement, skip_group, unexpected};
 use crate::tokens::Tokens;
 use std::alloc::{AllocError, Global};
-use vsim_netlist_design::{Fault, push};
+use vsim_netlist_design::{Fault, fault_at, push};
 
 /// The text of a function, with its line.
 #[derive(Clone, Copy)]

@@ -6,5 +6,5 @@ mod statements;
 mod tokens;
 
 pub use cells::{Formula, Unsupported, WrittenCell, WrittenPin, WrittenState, read_cell};
-pub use statements::{Form, Statement, fault_at, line_of, read_statement, skip_group, unexpected};
+pub use statements::{Form, Statement, read_statement, skip_group, unexpected};
 pub use tokens::{Tokens, tokens_of};

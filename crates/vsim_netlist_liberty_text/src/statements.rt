@@ -2,7 +2,7 @@
 
 use crate::tokens::{Token, Tokens};
 use std::alloc::Global;
-use vsim_netlist_design::{Draft, Fault};
+use vsim_netlist_design::{Draft, Fault, fault_at, line_of};
 
 /// The forms of statements.
 #[derive(Clone, Copy, PartialEq, Eq)]
@@ -23,35 +23,6 @@ pub struct Statement<'a> {
     pub name: &'a str,
     pub value: &'a str,
     pub line: usize,
-}
-
-/// A fault on a line.
-pub fn fault_at(alloc: Global, line: usize, parts: &[&str]) -> Fault {
-    let mut text = Draft::new(alloc);
-    text.push_shown(&line);
-    text.push(": ");
-    text.push_all(parts);
-    Fault::of_draft(text)
-}
-
-/// The maximum number of characters of a text that a refusal shows.
-const MOST_SHOWN: usize = 80;
-
-/// A text on one line, and of some length at most.
-pub fn line_of(alloc: Global, text: &str) -> Draft {
-    let mut line = Draft::new(alloc);
-    for (place, character) in text.chars().enumerate() {
-        if place == MOST_SHOWN {
-            line.push(" ..");
-            break;
-        }
-        line.push_char(if character.is_control() {
-            ' '
-        } else {
-            character
-        });
-    }
-    line
 }
 
 /// A token, as a refusal names it.

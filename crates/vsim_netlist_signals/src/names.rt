@@ -242,7 +242,7 @@ impl Names {
     }
 
     /// Adds names to those in use.
-    fn reserve(&mut self, words: &[&str]) {
+    pub(crate) fn reserve(&mut self, words: &[&str]) {
         for word in words {
             let _ = self.take(word);
         }

@@ -38,6 +38,9 @@ static INITIALS: [(Option<Level>, &str); 5] = [
     (Some(Level::HighImpedance), ":='Z'"),
 ];
 
+/// The names of the variables and the attribute in cells that have the delays of paths.
+static VARIABLES: [&str; 3] = ["v", "n", "event"];
+
 /// The name of the entity.
 fn entity_name(alloc: Global, names: &mut Names, source: &str) -> Draft {
     let name = plain_name(alloc, &Draft::of(alloc, source));
@@ -48,6 +51,9 @@ impl Signals {
     /// No signals. The entity has the name of the netlist.
     fn new(alloc: Global, netlist: &Netlist) -> Signals {
         let mut names = Names::new(alloc);
+        if netlist.has_paths {
+            names.reserve(&VARIABLES);
+        }
         let entity = entity_name(alloc, &mut names, netlist.name.as_str());
         Signals {
             alloc,
@@ -119,6 +125,24 @@ impl Signals {
         if let Some(signal) = self.signals.get_mut(place) {
             signal.initial = Some(level);
         }
+    }
+
+    /// The initial value of a signal, if it has one.
+    pub fn initial(&self, place: usize) -> Option<Level> {
+        match self.signals.get(place) {
+            Some(signal) => signal.initial,
+            None => None,
+        }
+    }
+
+    /// The number of all signals, of which some may have no name.
+    pub fn len(&self) -> usize {
+        self.signals.len()
+    }
+
+    /// Whether there are no signals.
+    pub fn is_empty(&self) -> bool {
+        self.signals.is_empty()
     }
 
     /// Adds a signal with a short name, and returns its place.

@@ -4,11 +4,13 @@ use crate::signals::Signals;
 use std::alloc::Global;
 use vsim_netlist_design::{Bit, Draft};
 
-/// The statements written so far, the signals that they name, and the number of their processes and
-/// drivers.
+/// The statements written so far, the signals and the entities that they name, and the number of
+/// their processes and drivers.
 pub struct Statements {
     pub alloc: Global,
     pub signals: Signals,
+    /// Entities with their architectures, which instances name.
+    pub entities: Draft,
     pub body: Draft,
     pub processes: usize,
     pub drivers: usize,
@@ -20,6 +22,7 @@ impl Drop for Statements {
         let Statements {
             alloc: _,
             signals: _signals,
+            entities: _entities,
             body: _body,
             processes: _,
             drivers: _,
@@ -33,6 +36,7 @@ impl Statements {
         Statements {
             alloc,
             signals,
+            entities: Draft::new(alloc),
             body: Draft::new(alloc),
             processes: 0,
             drivers: 0,

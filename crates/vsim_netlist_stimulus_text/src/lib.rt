@@ -8,5 +8,6 @@ mod stimulus;
 mod table;
 mod tables;
 mod targets;
+mod waveforms;
 
 pub use stimulus::{frequent_levels, put_stimuli};

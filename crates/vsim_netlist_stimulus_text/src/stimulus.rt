@@ -2,19 +2,17 @@
 
 ghost use Rattle.std.specs.Prelude.{◌<◌, length, IfSome};
 
-use crate::clock::{Clock, Edges, inverted, is_multiple, later_changes};
+use crate::clock::{Clock, Edges, is_multiple, later_changes};
 use crate::table::is_relayed;
 use crate::tables::Tables;
+use crate::waveforms::{
+    push_changes, push_first, push_inversion, push_inverted, put_run, put_run_from_unknown,
+    put_start,
+};
 use std::alloc::{AllocError, Global};
 use std::slice::Iter;
 use vsim_netlist_design::{Bit, Change, Draft, Level, Netlist, Port, Stimuli, push, push_time};
-use vsim_netlist_signals::{Signals, Statements};
-
-/// The maximum number of elements of a waveform.
-const ELEMENTS: usize = 16;
-
-/// The beginning of an assignment of further elements.
-const TRANSPORT: &str = "<=transport";
+use vsim_netlist_signals::Statements;
 
 /// The minimum number of changes of a clock.
 const CLOCK_CHANGES: usize = 6;
@@ -181,50 +179,10 @@ struct Manner<'a> {
     end: u64,
     /// The signal that stops the clocks, if there are any.
     running: Option<usize>,
-}
-
-/// Adds an element of a waveform and what is before it. Its value is a signal that always has it, if
-/// that is shorter, which it is not where it takes blanks on both sides.
-fn push_element(text: &mut Draft, signals: &Signals, before: &str, change: &Change, later: u64) {
-    text.push(before);
-    match signals.short_constant(change.level) {
-        Some(name) if before != TRANSPORT => text.push_all(&[name, " after "]),
-        _ => text.push_all(&[change.level.literal(), "after "]),
-    }
-    push_time(text, change.time.saturating_add(later));
-}
-
-/// Adds the assignment of some changes.
-fn push_waveform(
-    text: &mut Draft,
-    signals: &Signals,
-    target: usize,
-    changes: &[Change],
-    later: u64,
-    is_first: bool,
-) {
-    let mut before = if is_first { "<=" } else { TRANSPORT };
-    text.push(signals.text(target));
-    for change in changes {
-        push_element(text, signals, before, change, later);
-        before = ",";
-    }
-    text.push(";\n");
-}
-
-/// Adds the assignments of all changes of a signal.
-fn push_changes(
-    text: &mut Draft,
-    signals: &Signals,
-    target: usize,
-    changes: &[Change],
-    later: u64,
-) {
-    let mut is_first = true;
-    for some in changes.chunks(ELEMENTS) {
-        push_waveform(text, signals, target, some, later, is_first);
-        is_first = false;
-    }
+    /// Whether cells have the delays of paths. Then inputs are unknown until they have their first
+    /// values in the second cycle of time 0, and all that change at one time do so in one cycle, so
+    /// that a cell sees which of its inputs changed last. None are in tables.
+    has_paths: bool,
 }
 
 /// The first change of a net is its initial value, if it is at time 0. Returns the changes after
@@ -238,36 +196,28 @@ fn begin<'a>(statements: &mut Statements, net: &Driven<'a>) -> &'a [Change] {
     later_changes(net.changes)
 }
 
-/// Adds the inversion of a clock after half its period, until a signal falls.
-fn push_inversion(text: &mut Draft, clock: &str, running: &str, half: u64) {
-    text.push_all(&[clock, "<=", clock, " xor ", running, " after "]);
-    push_time(text, half);
-}
-
-/// Writes the signal that rises with the first edge of a clock.
-fn put_started(statements: &mut Statements, once: &mut Draft, start: u64) -> usize {
-    let started = statements.signals.add(Some(Level::Zero));
-    statements.count_driver();
-    let rise = Change {
-        time: start,
-        level: Level::One,
+/// Writes a clock that is unknown until it has its first value, and stops when a signal falls, which
+/// is not known at first either.
+fn put_clock_from_unknown(
+    statements: &mut Statements,
+    once: &mut Draft,
+    net: &Driven<'_>,
+    edges: Edges,
+    running: usize,
+) {
+    statements.signals.ensure(net.place);
+    statements.count();
+    let Some(first) = net.changes.first() else {
+        return;
     };
-    push_changes(once, &statements.signals, started, &[rise], 0);
-    started
-}
-
-/// Writes the end of the assignment of a clock whose first edge is not half a period after time 0:
-/// it is inverted once a signal has risen, and before that takes the level after the first edge.
-fn put_start(statements: &mut Statements, once: &mut Draft, first: Level, start: u64) {
-    let started = put_started(statements, once, start);
-    statements.body.push(" when ");
-    statements.push_name(started);
-    let change = Change {
-        time: start,
-        level: inverted(first),
-    };
+    push_first(statements, net.place, first.level, running);
     let (signals, text) = (&statements.signals, &mut statements.body);
-    push_element(text, signals, "='1'else ", &change, 0);
+    let (clock, running) = (signals.text(net.place), signals.text(running));
+    push_inverted(text, clock, running, edges.half);
+    if edges.start != edges.half {
+        put_start(statements, once, first.level, edges.start);
+    }
+    statements.body.push(";\n");
 }
 
 /// Writes a clock that stops when a signal falls.
@@ -317,6 +267,23 @@ fn put_relay(statements: &mut Statements, net: &Driven<'_>) -> usize {
     let relay = statements.signals.add(initial(net));
     put_copy(statements, relay, net.place);
     relay
+}
+
+/// Writes the changes of an input other than a clock of constant period, from its first value on.
+fn put_all_changes(
+    statements: &mut Statements,
+    once: &mut Draft,
+    net: &Driven<'_>,
+    is_clock: bool,
+    hold: u64,
+) {
+    statements.signals.ensure(net.place);
+    if net.changes.is_empty() {
+        return;
+    }
+    statements.count_driver();
+    let later = if is_clock { 0 } else { hold };
+    push_changes(once, &statements.signals, net.place, net.changes, later);
 }
 
 /// Writes the changes of an input other than a clock of constant period.
@@ -472,6 +439,9 @@ fn tables(
     nets: &[Driven<'_>],
     manner: Manner<'_>,
 ) -> Result<Vec<Tables>, AllocError> {
+    if manner.has_paths {
+        return Ok(Vec::new(statements.alloc));
+    }
     let inputs = table_inputs(statements.alloc, nets, manner.clocks)?;
     let mut found = clocked_tables(statements, nets, manner, inputs.as_slice())?;
     add_stepped(statements, once, inputs.as_slice(), manner.hold, &mut found)?;
@@ -575,7 +545,11 @@ fn put_input(
             return put_in_table(statements, &mut tables[place], net);
         }
     }
-    put_changes(statements, once, net, is_clock, manner.hold);
+    if manner.has_paths {
+        put_all_changes(statements, once, net, is_clock, manner.hold);
+    } else {
+        put_changes(statements, once, net, is_clock, manner.hold);
+    }
     Ok(())
 }
 
@@ -587,13 +561,15 @@ fn put_net(
     manner: Manner<'_>,
     tables: &mut [Tables],
 ) -> Result<(), AllocError> {
-    match (net.edges, manner.running) {
-        (Some(edges), Some(running)) => {
-            put_clock(statements, once, net, edges, running);
-            Ok(())
-        }
-        _ => put_input(statements, once, net, manner, tables),
+    let (Some(edges), Some(running)) = (net.edges, manner.running) else {
+        return put_input(statements, once, net, manner, tables);
+    };
+    if manner.has_paths {
+        put_clock_from_unknown(statements, once, net, edges, running);
+    } else {
+        put_clock(statements, once, net, edges, running);
     }
+    Ok(())
 }
 
 /// Writes the drivers of the inputs, except the tables.
@@ -645,30 +621,20 @@ fn put_once(statements: &mut Statements, once: &Draft) {
     push_once(text, signals.text(never), once);
 }
 
-/// The signal that stops the clocks at a time.
-fn put_run(statements: &mut Statements, once: &mut Draft, end: u64) -> usize {
-    let running = statements.signals.add(Some(Level::One));
-    statements.count_driver();
-    let stop = Change {
-        time: end,
-        level: Level::Zero,
-    };
-    push_changes(once, &statements.signals, running, &[stop], 0);
-    running
-}
-
-/// The signal that stops the clocks at a time, if there are any.
+/// The signal that stops the clocks at the time of their last change, if there are any.
 fn put_running(
     statements: &mut Statements,
     once: &mut Draft,
     nets: &[Driven<'_>],
-    end: u64,
+    manner: Manner<'_>,
 ) -> Option<usize> {
-    if has_clock(nets) {
-        Some(put_run(statements, once, end))
-    } else {
-        None
+    if !has_clock(nets) {
+        return None;
     }
+    if manner.has_paths {
+        return Some(put_run_from_unknown(statements, once, manner.end));
+    }
+    Some(put_run(statements, once, manner.end))
 }
 
 /// Whether any net is a clock.
@@ -743,25 +709,25 @@ pub fn put_stimuli(
 ) -> Result<(), AllocError> {
     let nets = prepared(statements.alloc, netlist, stimuli)?;
     let end = last_edge(nets.as_slice());
-    put_driven(statements, nets.as_slice(), clocks, hold, end)
+    let manner = Manner {
+        clocks,
+        hold,
+        end,
+        running: None,
+        has_paths: netlist.has_paths,
+    };
+    put_driven(statements, nets.as_slice(), manner)
 }
 
 /// Writes the drivers of the inputs, and the clocks.
 fn put_driven(
     statements: &mut Statements,
     nets: &[Driven<'_>],
-    clocks: &[bool],
-    hold: u64,
-    end: u64,
+    manner: Manner<'_>,
 ) -> Result<(), AllocError> {
     let mut once = Draft::new(statements.alloc);
-    let running = put_running(statements, &mut once, nets, end);
-    let manner = Manner {
-        clocks,
-        hold,
-        end,
-        running,
-    };
+    let running = put_running(statements, &mut once, nets, manner);
+    let manner = Manner { running, ..manner };
     put_inputs(statements, &mut once, nets, manner)?;
     put_once(statements, &once);
     Ok(())
