@@ -367,11 +367,12 @@ def stimuli_at_random(chance, width):
 
 
 def joined(chance, kinds, width):
-    """Returns a netlist at random of these cells, whose inputs are those of the design or outputs of cells before."""
-    cells, bit = {}, 2 + width
+    """Returns a netlist at random of these cells, whose inputs are those of the design or outputs of cells before that are never z."""
+    cells, bit, bits = {}, 2 + width, list(range(2, 2 + width))
     for number in range(CELL_COUNT):
         kind = chance.choice(kinds)
-        nets = {pin: [chance.randrange(2, bit)] for pin in kind.inputs}
+        nets = {pin: [chance.choice(bits)] for pin in kind.inputs}
+        bits += [bit + it for it, (_, three_state) in enumerate(kind.outputs.values()) if three_state is None]
         for pin in kind.outputs:
             nets[pin], bit = [bit], bit + 1
         cells[f"u{number}"] = kind, nets
