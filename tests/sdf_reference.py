@@ -6,7 +6,8 @@ What changes at one time does so at once. When the value of an output's function
 which has just changed, the least of several: that for a rise where the new value is 1 or the old one 0, else that for a fall. To z counts the
 third delay or, from x, the longer of both; from z to x the shorter. A change that is under way is cancelled by the next one. An input without
 a delay takes the longest of the others, as does what follows at time 0 from no change of an input.
-A register takes from an input of the design what that had before the edge.
+A register takes from an input of the design what that had before the edge. So it does from all pins if its data are a formula: that is a gate
+of its own, whose value comes after the edge.
 """
 import heapq
 
@@ -28,7 +29,9 @@ class TimedCell(Instance):
 
     def take(self, changed, late):
         """Takes the values of pins that have changed, of which some are late for a register. Returns the letters of the outputs."""
-        before = {**self.values, **{pin: value for pin, value in changed.items() if pin not in late}}
+        data = self.kind.parts.get("next_state") if self.kind.state else None
+        seen = {} if data and not isinstance(data.tree, str) else {pin: value for pin, value in changed.items() if pin not in late}
+        before = {**self.values, **seen}
         self.values.update(changed)
         if self.kind.state:
             part = {it: function.value(before if it == "next_state" else self.values) for it, function in self.kind.parts.items()}
