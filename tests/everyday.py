@@ -28,7 +28,7 @@ import sys
 import tempfile
 
 TOP = os.path.dirname(os.path.dirname(os.path.realpath(__file__)))
-NAMES = ["vsim", "vsim_explain", "vsim_waves", "vsim_compare", "vsim_netlist"]
+NAMES = ["vsim", "vsim_explain", "vsim_waves", "vsim_compare", "vsim_netlist", "vsim_check"]
 # those that take paths of files, so that bash offers files
 TAKE_FILES = ["vsim_explain", "vsim_compare"]
 # where the files of a program are in a prefix; for each shell also the command that reads the file, and the mark of a value that is a file

@@ -21,7 +21,7 @@ import tempfile
 import time
 
 TOP = os.path.dirname(os.path.dirname(os.path.realpath(__file__)))
-NAMES = ["vsim", "vsim_explain", "vsim_waves", "vsim_compare", "vsim_netlist"]
+NAMES = ["vsim", "vsim_explain", "vsim_waves", "vsim_compare", "vsim_netlist", "vsim_check"]
 # what dpkg wants of a root, and what the checks of a system do not concern
 STATE = ["info", "updates", "triggers"]
 DPKG = ["--force-not-root", "--force-depends", "--force-bad-path"]
@@ -113,6 +113,6 @@ def main(words):
 
 if __name__ == "__main__":
     sys.dont_write_bytecode = True
-    if len(sys.argv) != 6:
+    if len(sys.argv) != 7:
         sys.exit(__doc__)
     sys.exit(main(sys.argv[1:]))

@@ -9,7 +9,9 @@ mod logic;
 mod modules;
 mod nets;
 mod object;
+mod pins;
 mod registers;
 mod timings;
 
 pub use modules::read_netlist;
+pub use pins::{Connections, Instance, Pin, read_connections};

@@ -26,7 +26,7 @@ fn is_wanted(name: &str, module: &Module, top: Option<&str>, is_only: bool) -> b
 }
 
 /// The requested module, and its name.
-fn wanted<'a>(
+pub(crate) fn wanted<'a>(
     alloc: Global,
     document: &'a Document,
     top: Option<&str>,
@@ -100,7 +100,7 @@ fn put_port(
 }
 
 /// Adds the ports of a module.
-fn put_ports(
+pub(crate) fn put_ports(
     alloc: Global,
     nets: &mut Nets,
     ports: &mut Vec<Port>,
@@ -243,7 +243,7 @@ fn put_cells(
 }
 
 /// The names of ports with a dot. They are escaped names, as a port is in no scope.
-fn escaped_names(alloc: Global, ports: &[Port]) -> Result<IndexSet<String>, AllocError> {
+pub(crate) fn escaped_names(alloc: Global, ports: &[Port]) -> Result<IndexSet<String>, AllocError> {
     let mut names = IndexSet::new(alloc);
     for port in ports {
         if port.name.as_str().contains('.') {
@@ -284,7 +284,7 @@ fn put_variable(
 }
 
 /// Adds the source's names of nets, given the names that are escaped.
-fn put_each_variable(
+pub(crate) fn put_each_variable(
     alloc: Global,
     nets: &mut Nets,
     variables: &mut Vec<Variable>,
@@ -403,7 +403,7 @@ fn demand_creator(alloc: Global, creator: &str) -> Result<(), Fault> {
 }
 
 /// Reads the JSON.
-fn read_document(alloc: Global, text: &str) -> Result<Document, Fault> {
+pub(crate) fn read_document(alloc: Global, text: &str) -> Result<Document, Fault> {
     let document = match serde_json::from_str::<Document>(alloc, text) {
         Ok(document) => document,
         Err(fault) => return Err(no_netlist(alloc, fault)),

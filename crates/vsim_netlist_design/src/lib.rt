@@ -4,6 +4,7 @@
 
 mod arcs;
 mod bits;
+mod checks;
 mod delays;
 mod fault;
 mod gates;
@@ -19,6 +20,9 @@ mod writing;
 
 pub use arcs::{Arc, Arcs, arcs_to, wire_to};
 pub use bits::Bit;
+pub use checks::{
+    CheckEvent, CheckList, CheckOwner, CheckRule, Family, Guard, TimingCheck, Width, Window,
+};
 pub use delays::{
     Condition, DelayEntry, DelayList, DelayTable, Delayed, Delays, Edge, NameList, Passed, Path,
     PinPlace, Times, When,

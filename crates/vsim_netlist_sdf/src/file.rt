@@ -2,7 +2,7 @@
 
 use crate::reader::{Corner, Reader, Target};
 use std::alloc::Global;
-use vsim_netlist_design::{Delays, Draft, Fault, line_of};
+use vsim_netlist_design::{CheckList, Delays, Draft, Fault, line_of};
 use vsim_netlist_sdf_text::{Token, parts_of, scale_of};
 
 /// The entries of a header that say nothing of delays.
@@ -148,7 +148,7 @@ impl<'a> Reader<'a> {
         self.fault(&[text.as_str()])
     }
 
-    /// Counts the checks of a cell.
+    /// Takes the checks of a cell.
     fn take_checks(&mut self) -> Result<(), Fault> {
         for _ in 0..u64::MAX {
             if !self.enter()? {
@@ -159,9 +159,10 @@ impl<'a> Reader<'a> {
         Ok(())
     }
 
-    /// Counts a check.
+    /// Takes a check, or counts it.
     fn take_check(&mut self) -> Result<(), Fault> {
         match known(CHECKS.as_slice(), self.keyword) {
+            Some(name) if self.checks.is_wanted => self.take_timing_check(name),
             Some(name) => self.pass(name),
             None => Err(self.unsupported()),
         }
@@ -262,11 +263,32 @@ impl<'a> Reader<'a> {
     }
 }
 
-/// Reads a file, whose values are those of a corner.
-pub fn read_delay_file(alloc: Global, text: &[u8], corner: Corner) -> Result<Delays, Fault> {
+/// Reads a file, whose values are those of a corner, with its checks if they are wanted.
+fn read_file(
+    alloc: Global,
+    text: &[u8],
+    corner: Corner,
+    wants_checks: bool,
+) -> Result<(Delays, CheckList), Fault> {
     let mut reader = Reader::new(alloc, text, corner);
+    reader.checks.is_wanted = wants_checks;
     match reader.take_file() {
-        Ok(()) => Ok(reader.into_delays()),
+        Ok(()) => Ok(reader.into_parts()),
         Err(fault) => Err(fault.about(alloc, &["the SDF file"])),
     }
+}
+
+/// Reads a file, whose values are those of a corner.
+pub fn read_delay_file(alloc: Global, text: &[u8], corner: Corner) -> Result<Delays, Fault> {
+    let (delays, _checks) = read_file(alloc, text, corner, false)?;
+    Ok(delays)
+}
+
+/// Reads a file with its checks, whose values are those of a corner.
+pub fn read_check_file(
+    alloc: Global,
+    text: &[u8],
+    corner: Corner,
+) -> Result<(Delays, CheckList), Fault> {
+    read_file(alloc, text, corner, true)
 }

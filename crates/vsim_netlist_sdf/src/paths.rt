@@ -49,7 +49,7 @@ impl<'a> Reader<'a> {
     }
 
     /// Takes a pin with an edge, after its opening parenthesis.
-    fn edge_and_pin(&mut self) -> Result<(Edge, usize), Fault> {
+    pub(crate) fn edge_and_pin(&mut self) -> Result<(Edge, usize), Fault> {
         let edge = self.edge()?;
         let pin = self.pin()?;
         self.close()?;
@@ -57,7 +57,7 @@ impl<'a> Reader<'a> {
     }
 
     /// Takes the input of a path.
-    fn input(&mut self) -> Result<(Edge, usize), Fault> {
+    pub(crate) fn input(&mut self) -> Result<(Edge, usize), Fault> {
         if self.tokens.token == Token::Open {
             self.tokens.advance();
             return self.edge_and_pin();
@@ -94,7 +94,7 @@ impl<'a> Reader<'a> {
     }
 
     /// Adds a condition.
-    fn add_condition(&mut self, text: &'a str, line: usize) -> Result<usize, Fault> {
+    fn add_condition(&mut self, text: &str, line: usize) -> Result<usize, Fault> {
         let pins = &mut self.delays.pins;
         let condition = read_condition(self.alloc, pins, text, self.divider, line)?;
         let place = self.delays.conditions.len();
@@ -103,7 +103,7 @@ impl<'a> Reader<'a> {
     }
 
     /// Notes the index of the condition with a text.
-    fn name_condition(&mut self, text: &'a str, place: usize) -> Result<usize, Fault> {
+    fn name_condition(&mut self, text: &str, place: usize) -> Result<usize, Fault> {
         let key = String::from_str(self.alloc, text)?;
         let _none = self
             .conditions
@@ -113,7 +113,7 @@ impl<'a> Reader<'a> {
     }
 
     /// The index of the condition with a text.
-    fn condition(&mut self, text: &'a str, line: usize) -> Result<usize, Fault> {
+    pub(crate) fn condition(&mut self, text: &str, line: usize) -> Result<usize, Fault> {
         let found = match self.conditions.get(text) {
             Some(place) => Some(*place),
             None => None,

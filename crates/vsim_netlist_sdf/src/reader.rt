@@ -2,7 +2,7 @@
 
 use std::alloc::{AllocError, Global};
 use std::collections::HashMap;
-use vsim_netlist_design::{Delays, Draft, Fault, fault_at, line_of};
+use vsim_netlist_design::{CheckList, Delays, Draft, Fault, fault_at, line_of};
 use vsim_netlist_sdf_text::{Token, Tokens, parts_of, tokens_of};
 
 /// Which of three values counts.
@@ -32,6 +32,7 @@ pub(crate) struct Reader<'a> {
     /// The unit of times, as a power of ten of femtoseconds.
     pub(crate) scale: i64,
     pub(crate) delays: Delays,
+    pub(crate) checks: CheckList,
     /// The indices of conditions by their texts.
     pub(crate) conditions: HashMap<String, usize>,
     /// The kind and the instance of the present cell.
@@ -79,7 +80,7 @@ fn is_plain(word: &str, divider: char) -> bool {
 }
 
 /// The depth of groups after a token.
-fn deeper(depth: usize, token: Token<'_>) -> usize {
+pub(crate) fn deeper(depth: usize, token: Token<'_>) -> usize {
     match token {
         Token::Open => depth.saturating_add(1),
         Token::Close => depth.saturating_sub(1),
@@ -97,6 +98,7 @@ impl<'a> Reader<'a> {
             divider: '.',
             scale: 6,
             delays: Delays::new(alloc),
+            checks: CheckList::new(alloc),
             conditions: HashMap::new(alloc),
             kind: "",
             instance: String::new(alloc),
@@ -108,8 +110,8 @@ impl<'a> Reader<'a> {
         }
     }
 
-    /// The delays that have been read.
-    pub(crate) fn into_delays(self) -> Delays {
+    /// The delays and checks that have been read.
+    pub(crate) fn into_parts(self) -> (Delays, CheckList) {
         let Reader {
             alloc: _,
             tokens: _,
@@ -117,6 +119,7 @@ impl<'a> Reader<'a> {
             divider: _,
             scale: _,
             delays,
+            checks,
             conditions: _conditions,
             kind: _,
             instance: _instance,
@@ -126,7 +129,7 @@ impl<'a> Reader<'a> {
             line: _,
             entries: _,
         } = self;
-        delays
+        (delays, checks)
     }
 
     /// A fault on the line of the present keyword.

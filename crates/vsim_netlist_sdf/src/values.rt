@@ -161,7 +161,7 @@ impl<'a> Reader<'a> {
     }
 
     /// Takes a value and the parenthesis after it.
-    fn plain_value(&mut self) -> Result<Option<i64>, Fault> {
+    pub(crate) fn plain_value(&mut self) -> Result<Option<i64>, Fault> {
         let (start, line) = (self.tokens.start, self.tokens.token_line);
         let end = self.pass_words();
         self.close()?;
