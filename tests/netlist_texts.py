@@ -597,7 +597,7 @@ def beyond():
 
 def is_taken_large(programs, text):
     """Demands that a netlist beyond a limit has a text with `--large`, and that vsim takes it."""
-    status, made, said = run([programs[1], "--large"], text)
+    status, made, said = run([programs[1], "--large"], text.encode())
     demand(status == 0, f"vsim_netlist: {said}")
     status, _, said = run([programs[0], "--top", "top", "--stop", "0", "--large"], made)
     demand(status == 0, f"vsim: {said}")

@@ -98,9 +98,12 @@ pub(crate) fn put_start(statements: &mut Statements, once: &mut Draft, first: Le
 /// Adds the beginning of the assignment of a clock: its first value, before a signal is known.
 pub(crate) fn push_first(statements: &mut Statements, clock: usize, first: Level, running: usize) {
     let (signals, text) = (&statements.signals, &mut statements.body);
-    let literal = first.literal();
-    text.push_all(&[signals.text(clock), "<=", literal, "when "]);
-    text.push_all(&[signals.text(running), "='U'else "]);
+    text.push(signals.text(clock));
+    text.push("<=");
+    text.push(first.literal());
+    text.push("when ");
+    text.push(signals.text(running));
+    text.push("='U'else ");
 }
 
 /// The change of the signal that stops the clocks.
