@@ -1,7 +1,7 @@
 #!/usr/bin/env python3
 """Tries what each program answers before it reads a design, and what a shell finds of it.
 
-    everyday.py VSIM VSIM_EXPLAIN VSIM_WAVES VSIM_COMPARE VSIM_NETLIST [--install]
+    everyday.py VSIM VSIM_EXPLAIN VSIM_WAVES VSIM_COMPARE VSIM_NETLIST VSIM_CHECK [--install]
 
 For each program: `--version` and `-V` print a line that begins with its name, `--help` and `-h` print the help, both on standard output
 with status 0; words that are refused, or are no text, go to standard error with status 2; and a line of usage has the program's own name. Its man page

@@ -1,7 +1,7 @@
 #!/usr/bin/env python3
 """Installs the tarball and the package that the script release makes, each in a root of its own, runs the example there, and removes it.
 
-    release.py VSIM VSIM_EXPLAIN VSIM_WAVES VSIM_COMPARE VSIM_NETLIST
+    release.py VSIM VSIM_EXPLAIN VSIM_WAVES VSIM_COMPARE VSIM_NETLIST VSIM_CHECK
 
 The tarball and the package, made twice, a second later and by one who lets nobody else read files, are the same byte for byte. From each
 the program answers examples/bus.vhd with its listing, BUILT has what each program says of itself and the checksum of its file, and each
