@@ -1,5 +1,5 @@
 -- Values are written place by place, and those of nets are made from those of drivers.
-use Rattle.std.proofs.Common.{ℕ, zero, suc, ◌+◌, ◌<◌, ◌≡◌, Bool, List, [], ◌∷◌, length, get_or, map, set, refl, ap, ◌∙◌, arith}
+use Rattle.std.proofs.Common.{ℕ, zero, suc, ◌+◌, ◌<◌, ◌≡◌, Bool, List, [], ◌∷◌, length, get_or, map, set, refl, ap, sym, ◌∙◌, arith}
 use Rattle.std.proofs.lemmas.List.{get_or-set_same, get_or-set_other, get_or_default, get_or-map, length-map, map-set, same_lists}
 use Rattle.sim_logic.specs.declared.logic.Logic.{Logic}
 use Rattle.sim_logic.specs.declared.logic.Logic.TheVariants.{U}
@@ -11,6 +11,7 @@ use Rattle.sim_standard.specs.Nets.{source_value}
 use Rattle.sim_standard.specs.State.{driver_at, driver_values}
 use Rattle.sim_containers.specs.Numbers.{is_in}
 use Rattle.sim_containers.specs.Words.{IsNext}
+use Rattle.sim_store_nets.specs.Lists.{Lists, net_from}
 use Rattle.sim_store_nets.specs.Nets.{row_from, row_value, value_at, value_from}
 use Rattle.sim_store_nets.proofs.Walks.{Walked, walk_more}
 
@@ -69,3 +70,12 @@ pub value-here : (values : List Logic) (sources : List (List Source)) (f : List 
     → value_at values n ≡ f (get_or sources n [])
 value-here values sources f n e lt =
     ap (λ w. value_at w n) e ∙ get_or-map f sources n [] U (omega (arith, lt, ap length e, length-map sources f))
+
+-- values that are those of the sources at each net
+pub resolved-everywhere : (l : Lists) (xs : List Logic) → length xs ≡ length l.sources → ((n : ℕ) → n < length xs → value_at xs n ≡ net_from l n)
+    → xs ≡ map (row_from l.driving) l.sources
+resolved-everywhere l xs e at =
+    let f = row_from l.driving in
+    let long = length-map l.sources f in
+    same-everywhere xs (map f l.sources) (omega (arith, e, long))
+    (λ n lt. at n lt ∙ sym (value-here (map f l.sources) l.sources f n refl (omega (arith, lt, e, long))))

@@ -1,11 +1,11 @@
 -- What an update looks at beside drivers and nets (IEEE 1076-2008, 14.7.3).
 -- Implementation only: what `simulate` promises does not rest on this file.
-use Rattle.std.specs.Prelude.{ℕ, ◌≡◌, ◌<◌, List, [], Bool, false, length, slice_index_or, slice_set}
+use Rattle.std.specs.Prelude.{ℕ, ◌≡◌, ◌<◌, List, [], Bool, false, length, map, slice_index_or, slice_set}
 use Rattle.sim_logic.specs.declared.logic.Logic.{Logic}
 use Rattle.sim_flat_design.specs.declared.design.Source.{Source}
 use Rattle.sim_containers.specs.Numbers.{is_in}
 use Rattle.sim_store_nets.specs.Tallies.{TallyLists}
-use Rattle.sim_store_nets.specs.Nets.{AreFanOut, AreTallied, row_from}
+use Rattle.sim_store_nets.specs.Nets.{AreFanOut, AreTallied, row_from, value_at}
 
 -- the sources of each net, the value of each driver, the nets that may have an event, and those that are gathered as such
 pub record Lists : Type 0 where
@@ -45,3 +45,20 @@ pub record IsNotedAlone (number : ℕ) (value : Logic) (old new : Lists) : Type 
   pub sources : new.sources ≡ old.sources
   pub sized : length new.touched ≡ length old.touched
   pub still : (n : ℕ) → n < length old.sources → is_in new.touched n ≡ false → net_from new n ≡ net_from old n
+
+-- A cycle's nets before they are resolved: none has an event yet, and those that are not touched have the values of their sources.
+pub record AreUnresolved (l : Lists) (v : NetValues) : Type 0 where
+  pub sources : length v.present ≡ length l.sources
+  pub sized : length l.touched ≡ length l.sources
+  pub none : v.before ≡ v.present
+  pub others : (n : ℕ) → n < length v.present → is_in l.touched n ≡ false → value_at v.present n ≡ net_from l n
+
+-- Before a net is resolved, it has no event.
+pub record IsUnresolved (l : Lists) (v : NetValues) (net : ℕ) : Type 0 where
+  pub at : net < length v.present
+  pub sources : length v.present ≡ length l.sources
+  pub none : value_at v.present net ≡ value_at v.before net
+
+-- each net with the value of its sources
+abbrev pub resolved_by : Lists → NetValues → NetValues
+resolved_by l v = record { present = map (row_from l.driving) l.sources; before = v.before }

@@ -1,15 +1,14 @@
 //! The values of nets (IEEE 1076-2008, 14.7.3), and how processes see them.
 
-ghost use Rattle.std.specs.Prelude.{ℕ, [], ◌≡◌, ◌<◌, false, length, map, fold, slice_index_or, ◌↔◌, IsTrue, IfOk};
+ghost use Rattle.std.specs.Prelude.{[], ◌≡◌, ◌<◌, length, map, fold, slice_index_or, ◌↔◌, IsTrue, IfOk};
 ghost use Rattle.sim_logic.specs.declared.logic.Logic as logic;
 ghost use Rattle.sim_logic.specs.Tables.{resolution_table};
 ghost use Rattle.sim_standard.specs.State.{net_at};
-ghost use Rattle.sim_containers.specs.Numbers.{is_in};
-ghost use Rattle.sim_store_nets.specs.Nets.{AreTallied, AreTouched, row_from, value_at, value_from, views_of};
+ghost use Rattle.sim_store_nets.specs.Nets.{AreTouched, row_from, value_at, value_from, views_of};
 ghost use Rattle.sim_store_nets.specs.Nets as spec;
 
 use crate::tallies::Tallies;
-use sim_containers::{NumberList, RowArray};
+use sim_containers::NumberList;
 use sim_exec_statements::{NetView, Nets};
 use sim_flat_design::{Process, Source};
 use sim_logic::{Logic, resolve_two};
@@ -77,7 +76,12 @@ fn several_value(tallies: &Tallies, net: usize, sources: &[Source], driving: &[L
 
 /// The same; a net of one source costs no more than a look at it.
 #[inline(always)]
-fn resolved_value(tallies: &Tallies, net: usize, sources: &[Source], driving: &[Logic]) -> Logic
+pub(crate) fn resolved_value(
+    tallies: &Tallies,
+    net: usize,
+    sources: &[Source],
+    driving: &[Logic],
+) -> Logic
     requires { 0 < length (slice_index_or tallies.now.rows net []) → slice_index_or tallies.now.rows net [] ≡ map (value_from driving.now) sources.now }
     ensures { result ≡ row_from driving.now sources.now }
 {
@@ -103,34 +107,6 @@ pub fn end_events(values_before: &mut [Logic], values: &[Logic], touched: &Numbe
     for place in 0..nets.len() {
         let net = nets[place];
         values_before[net] = values[net];
-    }
-}
-
-/// Touched nets take the values of their sources (14.7.5.3 d); other nets have them already. A net
-/// of many sources costs no look at each, and a single touched net no loop.
-pub fn resolve_touched(
-    values: &mut [Logic],
-    touched: &NumberList,
-    sources: &RowArray<Source>,
-    driving: &[Logic],
-    tallies: &Tallies,
-)
-    requires touched { length touched.now ≡ length values.old }
-    requires sources { length sources.now ≡ length values.old }
-    requires tallied { AreTallied sources.now driving.now tallies.now }
-    requires others { (n : ℕ) → is_in touched.now n ≡ false → n < length values.old
-        → value_at values.old n ≡ row_from driving.now (slice_index_or sources.now n []) }
-    ensures { values.new ≡ map (row_from driving.now) sources.now }
-{
-    let nets = touched.numbers();
-    if nets.len() == 1 {
-        let only = nets[0];
-        values[only] = resolved_value(tallies, only, sources.row(only), driving);
-        return;
-    }
-    for place in 0..nets.len() {
-        let net = nets[place];
-        values[net] = resolved_value(tallies, net, sources.row(net), driving);
     }
 }
 

@@ -2,9 +2,10 @@
 
 ghost use Rattle.std.specs.Prelude.{[], ◌≡◌, ◌<◌, false, length, replicate, slice_index_or, IfOk};
 ghost use Rattle.sim_containers.specs.Numbers.{members};
-ghost use Rattle.sim_store_nets.specs.Lists.{IsNoted, IsNotedAlone};
+ghost use Rattle.sim_store_nets.specs.Lists.{IsNoted, IsNotedAlone, net_from};
 ghost use Rattle.sim_store_nets.specs.Nets.{sources_of};
 
+use crate::nets::resolved_value;
 use crate::sets::{insert_each, replace_by};
 use crate::tallies::Tallies;
 use crate::wiring::connections;
@@ -109,6 +110,20 @@ impl UpdateLists {
         ensures { result.now ≡ slice_index_or self.now.sources net [] }
     {
         self.sources.row(net)
+    }
+
+    /// The value of a net, resolved from those of its sources (14.7.3.2, 14.7.3.3).
+    #[inline(always)]
+    pub(crate) fn net_value(&self, net: usize) -> Logic
+        requires { net < length self.now.sources }
+        ensures { result ≡ net_from self.now net }
+    {
+        resolved_value(
+            &self.tallies,
+            net,
+            self.sources.row(net),
+            self.driving.as_slice(),
+        )
     }
 
     /// From now on the values of several drivers are noted.

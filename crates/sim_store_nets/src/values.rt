@@ -1,11 +1,10 @@
 //! The values of all nets (IEEE 1076-2008, 14.7.3).
 
-ghost use Rattle.std.specs.Prelude.{ℕ, ◌≡◌, ◌<◌, false, length, map, slice_index_or, IfOk};
-ghost use Rattle.sim_containers.specs.Numbers.{is_in};
+ghost use Rattle.std.specs.Prelude.{◌≡◌, ◌≢◌, ◌<◌, length, map, slice_set, IfOk, MatchOption};
 ghost use Rattle.sim_store_nets.specs.Lists.{net_from};
 ghost use Rattle.sim_store_nets.specs.Nets.{AreTouched, row_from, sources_of, value_at};
 
-use crate::nets::{ByNumber, end_events, net_value, resolve_touched};
+use crate::nets::{ByNumber, end_events, net_value};
 use crate::update_lists::UpdateLists;
 use sim_flat_design::Net;
 use sim_logic::Logic;
@@ -95,21 +94,18 @@ impl Values {
         );
     }
 
-    /// The nets that may have an event take the values of their sources (14.7.5.3 d); other nets
-    /// have them already.
+    /// A net takes the value of its sources (14.7.5.3 d). Returns that if it is a new one.
     #[inline(always)]
-    pub fn resolve(&mut self, lists: &UpdateLists)
+    pub fn resolve(&mut self, lists: &UpdateLists, net: usize) -> Option<Logic>
+        requires at { net < length self.old.present }
         requires sized { length self.old.present ≡ length lists.now.sources }
-        requires others { (n : ℕ) → n < length self.old.present → is_in lists.now.touched n ≡ false → value_at self.old.present n ≡ net_from lists.now n }
-        ensures values { self.new.present ≡ map (row_from lists.now.driving) lists.now.sources }
-        ensures before { self.new.before ≡ self.old.before }
+        ensures values { self.new ≡ record self.old { present = slice_set self.old.present net (net_from lists.now net) } }
+        ensures changed { MatchOption result (net_from lists.now net ≡ value_at self.old.present net)
+            (λ v. (v ≡ net_from lists.now net) × (v ≢ value_at self.old.present net)) }
     {
-        resolve_touched(
-            self.present.as_mut_slice(),
-            &lists.touched,
-            &lists.sources,
-            lists.driving.as_slice(),
-            &lists.tallies,
-        );
+        let value = lists.net_value(net);
+        let before = self.present[net];
+        self.present[net] = value;
+        if value == before { None } else { Some(value) }
     }
 }

@@ -14,7 +14,7 @@ use Rattle.sim_standard.proofs.Records.{one-recorded}
 use Rattle.sim_store_state.specs.FlatState.{FlatState}
 use Rattle.sim_store_state.specs.Log.{last_record, IsNext}
 use Rattle.sim_store_simulation.specs.Simulation.{IsStateOf, Simulation, updated_last}
-use Rattle.sim_store_simulation.proofs.Counting.{last-record}
+use Rattle.sim_store_state.proofs.Logged.{last-pushed}
 use Rattle.sim_store_simulation.proofs.Going.{cycle-count}
 
 -- the first record has the time and the delta number of the first state
@@ -28,7 +28,7 @@ last-recorded : (d : Design) → All IsProcess d.processes → (k : ℕ) (u : St
 unfolding records_to
 last-recorded d is zero u e = subst is-first e (refl, refl)
 last-recorded d is (suc k) u e =
-    let last = last-record (records_to d k) (records_to d (suc k)) (record_of u) (one-recorded d is k u e) in
+    let last = ap last_record (one-recorded d is k u e) ∙ last-pushed (records_to d k) (record_of u) in
     (ap (λ (r : Record). r.time) last, ap (λ (r : Record). r.delta) last)
 
 -- so a record of a cycle after it comes next

@@ -6,7 +6,6 @@ mod due;
 mod history;
 mod phase;
 mod simulation;
-mod totals;
 mod waiting;
 
 pub use due::Due;

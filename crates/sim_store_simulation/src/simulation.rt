@@ -23,7 +23,6 @@ ghost use Rattle.sim_store_simulation.specs.declared.phase.Phase.TheVariants as 
 use crate::due::Due;
 use crate::history::records_from;
 use crate::phase::{Phase, Upcoming};
-use crate::totals::{count_last, none};
 use crate::waiting::Waiting;
 use sim_containers::{NumberSet, RisingRows};
 use sim_exec::{Codes, Done, Frame, Job, Results};
@@ -190,7 +189,8 @@ fn marks(alloc: Global, design: &Design) -> Result<FirstMarks, AllocError>
 {
     let (due, waiting) = parted(alloc, design)?;
     let deposited = NumberSet::new(alloc, design.processes().len())?;
-    let totals = none(alloc, design.nets().len())?;
+    let mut totals = Vec::new(alloc);
+    totals.resize(design.nets().len(), 0)?;
     Ok(FirstMarks {
         due,
         waiting,
@@ -598,15 +598,16 @@ impl Simulation {
         let nets = self.design.nets().len();
         let contents = &mut *self.contents;
         contents.log.reserve(nets)?;
-        // c), d) Active drivers take their transactions, and their nets are updated.
-        contents.state.update(time);
         // a) The time becomes that of the next cycle.
         contents.delta = next_delta(time, contents.time, contents.delta);
         contents.time = time;
-        contents
-            .state
-            .record(&mut contents.log, time, contents.delta);
-        count_last(contents.totals.as_mut_slice(), &contents.log);
+        // c), d) Active drivers take their transactions, and their nets are updated.
+        contents.state.update(
+            time,
+            contents.delta,
+            &mut contents.log,
+            contents.totals.as_mut_slice(),
+        );
         leave(&mut contents.waiting, contents.phase);
         // f.2) Processes sensitive to a net with an event resume.
         contents.due.find(

@@ -6,6 +6,7 @@ pub mod Kept
 pub mod Starting
 pub mod Sensitivity
 pub mod Logged
+pub mod Counting
 pub mod Noted
 pub mod Shares
 pub mod Updated

@@ -1,44 +1,24 @@
--- Nets without an event, one after another, add nothing.
-use Rattle.std.proofs.Common.{ℕ, zero, suc, ◌+◌, ◌<◌, ◌≤◌, ◌≡◌, ◌≢◌, ◌++◌, ◌||◌, ◌&&◌, Bool, true, false, not, List, [], ◌∷◌, length, get_or, drop, map}
-use Rattle.std.proofs.Common.{refl, ap, sym, ◌∙◌, arith, add-one, append_assoc}
-use Rattle.std.proofs.Math.Decide.{dec_lt}
-use Rattle.std.proofs.lemmas.List.{append-nil}
+-- What is recorded once one more net has the value of its sources.
+use Rattle.std.proofs.Common.{ℕ, zero, suc, ◌+◌, ◌<◌, ◌≤◌, ◌≡◌, ◌≢◌, ◌++◌, ◌||◌, ◌&&◌, Bool, true, false, not, List, [], ◌∷◌, length, get_or, set, drop}
+use Rattle.std.proofs.Common.{refl, ap, sym, ◌∙◌, arith, add-one}
 use Rattle.sim_logic.specs.declared.logic.Logic.{Logic}
-use Rattle.sim_logic.specs.declared.logic.Logic.TheVariants.{U}
 use Rattle.sim_logic.specs.Logic.{is_same}
 use Rattle.sim_standard.specs.declared.net_view.NetView.{NetView}
-use Rattle.sim_standard.specs.State.{net_at}
 use Rattle.sim_logic.proofs.SameValues.{same_from_is_same, is_same_from_same}
-use Rattle.sim_containers.specs.Numbers.{is_in}
-use Rattle.sim_containers.specs.Words.{IsNext, NoneFrom}
-use Rattle.sim_store_nets.specs.Nets.{AreTouched, value_at, views_of, changed_to}
+use Rattle.sim_store_nets.specs.Nets.{changed_to, value_at, views_of}
 use Rattle.sim_standard.specs.Records.{changes_from}
 use Rattle.sim_standard.specs.Orders.{is_among}
 use Rattle.sim_store_state.specs.Sensitive.{is_sensitive, is_resumed_by}
+use Rattle.sim_store_nets.proofs.SourceValues.{same-everywhere}
 use Rattle.sim_store_nets.proofs.Walks.{not_both}
-use Rattle.sim_store_nets.proofs.Views.{length-views_of, past_values, view_here}
-
--- a net that is not touched has no event
-pub quiet : {values values_before : List Logic} {touched : List Bool} → AreTouched values values_before touched → length values ≡ length values_before → (n : ℕ)
-    → is_in touched n ≡ false → (net_at (views_of values values_before) n).event ≡ false
-quiet {values} {values_before} {touched} i l n other = elim (dec_lt n (length values)) [
-  | yes h ↦ (
-      ap (λ (v : NetView). v.event) (sym (view_here values values_before n U U h (omega (arith, h, l))))
-      ∙ (ap (λ v. not (is_same (value_at values_before n) v)) (i.still n other)
-      ∙ ap not (is_same_from_same (value_at values_before n) (value_at values_before n) refl)))
-  | no h ↦ ap (λ (v : NetView). v.event) (sym (past_values values values_before n (omega (arith, h))))
-]
-
--- ---- what is recorded of them
 
 abbrev changes_if : {X : Type 0} → Bool → X → List X → List X
 changes_if true change rest = change ∷ rest
 changes_if false change rest = rest
 
-map-if : {X : Type 0} (f : ℕ × Logic → X) (b : Bool) (change : ℕ × Logic) (rest : List (ℕ × Logic))
-    → map f (changes_if b change rest) ≡ changes_if b (f change) (map f rest)
-map-if f true change rest = refl
-map-if f false change rest = refl
+if-append : {X : Type 0} (b : Bool) (x : X) (xs ys : List X) → changes_if b x (xs ++ ys) ≡ changes_if b x xs ++ ys
+if-append true x xs ys = refl
+if-append false x xs ys = refl
 
 first-change : (k : ℕ) (v : NetView) (nets : List NetView) → changes_from k (v ∷ nets) ≡ changes_if v.event (k, v.value) (changes_from (k + 1) nets)
 first-change k v nets = go v.event refl
@@ -47,88 +27,53 @@ first-change k v nets = go v.event refl
     go true e = rw e refl
     go false e = rw e refl
 
-changes-skip : (nets : List NetView) (from n k j : ℕ) → from ≤ n → j + from ≡ k + n → ((m : ℕ) → from ≤ m → m < n → (net_at nets m).event ≡ false)
-    → changes_from k (drop from nets) ≡ changes_from j (drop n nets)
-changes-skip [] zero zero k j le e q = refl
-changes-skip [] zero (suc n) k j le e q = refl
-changes-skip [] (suc from) zero k j le e q = refl
-changes-skip [] (suc from) (suc n) k j le e q = refl
-changes-skip (v ∷ nets) zero zero k j le e q = let same : k ≡ j = omega arith in ap (λ i. changes_from i (v ∷ nets)) same
-changes-skip (v ∷ nets) zero (suc n) k j le e q =
-    first-change k v nets ∙ (ap (λ b. changes_if b (k, v.value) (changes_from (k + 1) nets)) (q 0 (omega arith) (omega arith))
-    ∙ changes-skip nets zero n (k + 1) j (omega arith) (omega arith) (λ m f g. q (suc m) (omega arith) (omega arith)))
-changes-skip (v ∷ nets) (suc from) zero k j le e q = absurd (omega arith)
-changes-skip (v ∷ nets) (suc from) (suc n) k j le e q =
-    changes-skip nets from n k j (omega arith) (omega arith) (λ m f g. q (suc m) (omega arith) (omega arith))
+-- ---- one net
 
--- ---- a walk over the nets that are touched
+-- a net that keeps its value does not change
+pub change-none : (k : ℕ) (v b : Logic) (nets : List NetView) → v ≡ b → changes_from k (changed_to v b ∷ nets) ≡ changes_from (k + 1) nets
+change-none k v b nets e =
+    first-change k (changed_to v b) nets
+    ∙ ap (λ w. changes_if (not w) (k, v) (changes_from (k + 1) nets)) (is_same_from_same b v (sym e))
 
-between : (values values_before : List Logic) (touched : List Bool) (from n : ℕ) → AreTouched values values_before touched
-    → length values ≡ length values_before
-    → IsNext (is_in touched) from n → (m : ℕ) → from ≤ m → m < n → (net_at (views_of values values_before) m).event ≡ false
-between values values_before touched from n i l next m le lt = quiet i l m (next.first m le lt)
-
-view-at : (values values_before : List Logic) (n : ℕ) → n < length values → length values ≡ length values_before
-    → net_at (views_of values values_before) n ≡ changed_to (value_at values n) (value_at values_before n)
-view-at values values_before n lt l = sym (view_here values values_before n U U lt (omega (arith, lt, l)))
-
--- ---- and what is recorded of it
-
-drop-here : (nets : List NetView) (n : ℕ) → n < length nets → drop n nets ≡ net_at nets n ∷ drop (suc n) nets
-drop-here [] n lt = absurd (omega arith)
-drop-here (v ∷ nets) zero lt = refl
-drop-here (v ∷ nets) (suc n) lt = drop-here nets n (omega arith)
-
-pub entries-step : {X : Type 0} (f : ℕ × Logic → X) {values values_before : List Logic} {touched : List Bool} {from n : ℕ} (old new total : List X)
-    → AreTouched values values_before touched
-    → length values ≡ length values_before → IsNext (is_in touched) from n → n < length values
-    → (value_at values n ≢ value_at values_before n → new ≡ old ++ f (n, value_at values n) ∷ []) → (value_at values n ≡ value_at values_before n → new ≡ old)
-    → old ++ map f (changes_from from (drop from (views_of values values_before))) ≡ total
-    → new ++ map f (changes_from (n + 1) (drop (n + 1) (views_of values values_before))) ≡ total
-entries-step {X} f {values} {values_before} {touched} {from} {n} old new total i l next lt changed same e =
-    ap (λ k. new ++ map f (changes_from (n + 1) (drop k views))) (add-one n) ∙ (go (is_same before value) refl ∙ (sym (ap (λ w. old ++ w) front) ∙ e))
+-- in any case it changes once at most
+pub change-few : (k : ℕ) (v : NetView) → length (changes_from k (v ∷ [])) ≤ 1
+change-few k v = let few = go v.event in omega (arith, few, ap length (first-change k v []))
   where
-    views : List NetView
-    views = views_of values values_before
+    go : (b : Bool) → length (changes_if b (k, v.value) (changes_from (k + 1) [])) ≤ 1
+    go true = omega arith
+    go false = omega arith
 
-    value : Logic
-    value = value_at values n
+-- ---- all nets
 
-    before : Logic
-    before = value_at values_before n
+-- without an event there is no change
+pub changes-none : (k : ℕ) (xs : List Logic) → changes_from k (views_of xs xs) ≡ []
+changes-none k [] = refl
+changes-none k (x ∷ xs) = change-none k x x (views_of xs xs) refl ∙ changes-none (k + 1) xs
 
-    rest : List X
-    rest = map f (changes_from (n + 1) (drop (suc n) views))
-
-    front : map f (changes_from from (drop from views)) ≡ changes_if (not (is_same before value)) (f (n, value)) rest
-    front =
-        ap (map f) (changes-skip views from n from n next.further (omega arith) (between values values_before touched from n i l next)
-        ∙ (ap (changes_from n) (drop-here views n (omega (arith, lt, length-views_of values values_before l)))
-        ∙ (ap (λ v. changes_from n (v ∷ drop (suc n) views)) (view-at values values_before n lt l)
-        ∙ first-change n (changed_to value before) (drop (suc n) views))))
-        ∙ map-if f (not (is_same before value)) (n, value) (changes_from (n + 1) (drop (suc n) views))
-
-    go : (b : Bool) → is_same before value ≡ b → new ++ rest ≡ old ++ changes_if (not (is_same before value)) (f (n, value)) rest
-    go true g =
-        ap (λ w. w ++ rest) (same (sym (same_from_is_same before value g))) ∙ ap (λ b. old ++ changes_if (not b) (f (n, value)) rest) (sym g)
-    go false g =
-        let apart : value ≢ before = λ h. not_both (is_same before value) g (is_same_from_same before value (sym h)) in
-        ap (λ w. w ++ rest) (changed apart) ∙ (append_assoc old (f (n, value) ∷ []) rest
-        ∙ ap (λ b. old ++ changes_if (not b) (f (n, value)) rest) (sym g))
-
-changes-rest : (nets : List NetView) (from k : ℕ) → ((m : ℕ) → from ≤ m → (net_at nets m).event ≡ false) → changes_from k (drop from nets) ≡ []
-changes-rest [] zero k q = refl
-changes-rest [] (suc from) k q = refl
-changes-rest (v ∷ nets) zero k q =
-    first-change k v nets ∙ (ap (λ b. changes_if b (k, v.value) (changes_from (k + 1) nets)) (q 0 (omega arith))
-    ∙ changes-rest nets zero (k + 1) (λ m f. q (suc m) (omega arith)))
-changes-rest (v ∷ nets) (suc from) k q = changes-rest nets from k (λ m f. q (suc m) (omega arith))
-
-pub entries-end : {X : Type 0} (f : ℕ × Logic → X) {values values_before : List Logic} {touched : List Bool} {from : ℕ} (now total : List X)
-    → AreTouched values values_before touched → length values ≡ length values_before → NoneFrom (is_in touched) from
-    → now ++ map f (changes_from from (drop from (views_of values values_before))) ≡ total → now ≡ total
-entries-end f {values} {values_before} {touched} {from} now total i l none e =
-    sym (ap (λ w. now ++ map f w) (changes-rest (views_of values values_before) from from (λ m le. quiet i l m (none m le))) ∙ append-nil now) ∙ e
+-- a net gets a value where it and the nets after it have no event: its change comes after those of the others
+pub changes-set : (k n : ℕ) (xs ys : List Logic) (v : Logic) → length xs ≡ length ys → n < length xs
+    → ((m : ℕ) → n ≤ m → value_at xs m ≡ value_at ys m)
+    → changes_from k (views_of (set xs n v) ys) ≡ changes_from k (views_of xs ys) ++ changes_from (k + n) (changed_to v (value_at ys n) ∷ [])
+changes-set k n [] ys v l lt same = absurd (omega (arith, lt))
+changes-set k n (x ∷ xs) [] v l lt same = absurd (omega (arith, l))
+changes-set k zero (x ∷ xs) (y ∷ ys) v l lt same =
+    let rest : xs ≡ ys = same-everywhere xs ys (omega (arith, l)) (λ m _. same (suc m) (omega arith)) in
+    let at : k + 0 ≡ k = omega arith in
+    let none : changes_from (k + 1) (views_of xs ys) ≡ [] = ap (λ zs. changes_from (k + 1) (views_of zs ys)) rest ∙ changes-none (k + 1) ys in
+    let before : changes_from k (changed_to x y ∷ views_of xs ys) ≡ [] = change-none k x y (views_of xs ys) (same 0 (omega arith)) ∙ none in
+    first-change k (changed_to v y) (views_of xs ys)
+    ∙ (ap (changes_if (not (is_same y v)) (k, v)) none
+    ∙ (sym (first-change k (changed_to v y) []) ∙ (ap (λ i. changes_from i (changed_to v y ∷ [])) (sym at)
+    ∙ ap (λ w. w ++ changes_from (k + 0) (changed_to v y ∷ [])) (sym before))))
+changes-set k (suc n) (x ∷ xs) (y ∷ ys) v l lt same =
+    let at : k + 1 + n ≡ k + suc n = omega arith in
+    let b = not (is_same y x) in
+    let one = changes_from (k + suc n) (changed_to v (value_at ys n) ∷ []) in
+    let rest = changes-set (k + 1) n xs ys v (omega (arith, l)) (omega (arith, lt)) (λ m le. same (suc m) (omega (arith, le)))
+    ∙ ap (λ i. changes_from (k + 1) (views_of xs ys) ++ changes_from i (changed_to v (value_at ys n) ∷ [])) at in
+    first-change k (changed_to x y) (views_of (set xs n v) ys)
+    ∙ (ap (changes_if b (k, x)) rest ∙ (if-append b (k, x) (changes_from (k + 1) (views_of xs ys)) one
+    ∙ ap (λ w. w ++ one) (sym (first-change k (changed_to x y) (views_of xs ys)))))
 
 -- ---- processes sensitive to the recorded nets
 

@@ -9,7 +9,7 @@ use Rattle.sim_standard.specs.State.{Owned, all_drivers}
 use Rattle.sim_standard.proofs.Names.{own_taken}
 use Rattle.sim_containers.specs.Numbers.{is_in}
 use Rattle.sim_containers.specs.RowArray.{joined}
-use Rattle.sim_store_nets.specs.Lists.{Lists, NetValues, net_from}
+use Rattle.sim_store_nets.specs.Lists.{AreUnresolved, Lists, NetValues, net_from}
 use Rattle.sim_store_nets.specs.Nets.{row_from, value_at}
 use Rattle.sim_store_share.specs.Shares.{all_taken}
 use Rattle.sim_store_share.specs.Taking.{IsNoneBefore}
@@ -31,11 +31,24 @@ value-resolved l present n e lt =
     ∙ get_or-map (row_from l.driving) l.sources n [] U (omega (arith, lt, ap length e, length-map l.sources (row_from l.driving)))
 
 -- a net that is not touched has the value of its sources
-pub unreached : {values : NetValues} {shares : List (List Owned)} {lists : Lists} → IsConsistent values shares lists → (ds : List DriverState) (lists' : Lists)
+unreached : {values : NetValues} {shares : List (List Owned)} {lists : Lists} → IsConsistent values shares lists → (ds : List DriverState) (lists' : Lists)
     → IsUpdate ds lists lists' → (n : ℕ) → n < length values.present → is_in lists'.touched n ≡ false → value_at values.present n ≡ net_from lists' n
 unreached {values} {shares} {lists} i ds lists' u n lt none =
     let sized = ap length i.resolving ∙ length-map lists.sources (row_from lists.driving) in
     value-resolved lists values.present n i.resolving lt ∙ sym (u.still n (omega (arith, lt, sized)) none)
+
+-- so after the events of the last cycle have ended, nets can be resolved
+pub unresolved : {values : NetValues} {shares : List (List Owned)} {lists : Lists} → IsConsistent values shares lists → (ds : List DriverState)
+    (values' : NetValues) (lists' : Lists) → IsUpdate ds lists lists' → values'.present ≡ values.present → values'.before ≡ values.present
+    → AreUnresolved lists' values'
+unresolved {values} {shares} {lists} i ds values' lists' u ev eb =
+    let sized = ap length i.resolving ∙ length-map lists.sources (row_from lists.driving) in
+    record {
+      sources = ap length ev ∙ (sized ∙ sym (ap length u.sources));
+      sized = u.sized ∙ (i.touching.sized ∙ (sized ∙ sym (ap length u.sources)));
+      none = eb ∙ sym ev;
+      others = λ n lt none. ap (λ (vs : List Logic). value_at vs n) ev ∙ unreached i ds lists' u n (omega (arith, lt, ap length ev)) none;
+    }
 
 pub update-keeps : {values : NetValues} {shares : List (List Owned)} {lists : Lists} → IsConsistent values shares lists → (time : ℕ) (values' : NetValues)
     (shares' : List (List Owned)) (lists' : Lists) → shares' ≡ map (all_taken time) shares → IsUpdate (all_drivers (joined shares')) lists lists'

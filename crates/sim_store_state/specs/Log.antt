@@ -13,6 +13,11 @@ pub record Logged : Type 0 where
   pub times_room : ℕ
   pub entries_room : ℕ
 
+-- There is room for one more record of at most this number of changes.
+pub record HasRoom (log : Logged) (changes : ℕ) : Type 0 where
+  pub time : 0 < log.times_room
+  pub entries : changes < log.entries_room
+
 -- ---- how entries are read
 
 -- the changes of these entries

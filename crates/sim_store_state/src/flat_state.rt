@@ -17,7 +17,8 @@ ghost use Rattle.sim_standard.specs.State.{State, driver_values, net_at, owned_a
 ghost use Rattle.sim_store_nets.specs.Nets.{row_from, sources_of};
 ghost use Rattle.sim_store_state.specs.FlatState.{AreShares, IsConsistent, counts, flat_state_of, held};
 ghost use Rattle.sim_store_state.specs.InTurn.{AreExecuted, IsExecutable, IsOther};
-ghost use Rattle.sim_store_state.specs.Log.{IsNext};
+ghost use Rattle.sim_store_state.specs.Counting.{AreCountable, AreCounted};
+ghost use Rattle.sim_store_state.specs.Log.{HasRoom, IsNext};
 ghost use Rattle.sim_store_state.specs.Times as times;
 
 use crate::dividing::divided;
@@ -313,17 +314,24 @@ impl FlatState {
 
     /// The update at the time of the next cycle (14.7.5.3 c, d): drivers take the transactions of
     /// that time, and nets the values of their sources. It looks only at drivers that take a
-    /// transaction, and at the nets of those whose value changes.
-    pub fn update(&mut self, time: u64)
-        requires { spec.next_time (states.all_drivers self.old.owned) ≡ Some time }
-        ensures { (design : design_value) (s : State) → self.old ≡ flat_state_of design s → self.new ≡ flat_state_of design (updated design s time) }
+    /// transaction, and at the nets of those whose value changes. These changes are counted, and
+    /// appended to a log that has room for them, as a record with this delta number.
+    pub fn update(&mut self, time: u64, delta: u64, log: &mut Log, totals: &mut [u64])
+        requires time { spec.next_time (states.all_drivers self.old.owned) ≡ Some time }
+        requires few { length self.old.nets < 2 ^ 32 }
+        requires next { IsNext log.old.records time delta }
+        requires room { HasRoom log.old (length self.old.nets) }
+        requires countable { AreCountable (length self.old.nets) totals.old }
+        ensures state { (design : design_value) (s : State) → self.old ≡ flat_state_of design s → self.new ≡ flat_state_of design (updated design s time) }
+        ensures records { log.new.records ≡ log.old.records ++ record { time = time; delta = delta; changes = changes_from 0 self.new.nets } ∷ [] }
+        ensures counted { AreCounted (changes_from 0 self.new.nets) totals.old totals.new }
     {
         // The present values become the values before this cycle.
         self.values.end_events(&self.lists);
         // c) Each active driver takes its transaction.
         take_active(self.shares.as_mut_slice(), time, &mut self.lists);
         // d) Nets of changed drivers take the values of their sources.
-        self.values.resolve(&self.lists);
+        log.append(time, delta, &mut self.values, &self.lists, totals);
     }
 
     /// Executes these processes in place, in this order, by their codes (14.7.5.3 f, h). If allocation
@@ -370,25 +378,12 @@ impl FlatState {
         missing == 0
     }
 
-    /// Appends the changes of the last cycle to a log that has room for them.
-    pub fn record(&self, log: &mut Log, time: u64, delta: u64)
-        requires few { length self.now.nets < 2 ^ 32 }
-        requires next { IsNext log.old.records time delta }
-        requires time { 0 < log.old.times_room }
-        requires entries { length self.now.nets < log.old.entries_room }
-        ensures { log.new.records ≡ log.old.records ++ record { time = time; delta = delta; changes = changes_from 0 self.now.nets } ∷ [] }
-    {
-        let seen = self.values.seen();
-        log.append(time, delta, seen.values, seen.values_before, &self.lists);
-    }
-
     /// Appends the value of each net, as the record of the initialization, to a log that has room
     /// for it.
     pub fn record_all(&self, log: &mut Log, time: u64, delta: u64)
         requires few { length self.now.nets < 2 ^ 32 }
         requires next { IsNext log.old.records time delta }
-        requires time { 0 < log.old.times_room }
-        requires entries { length self.now.nets < log.old.entries_room }
+        requires room { HasRoom log.old (length self.now.nets) }
         ensures { log.new.records ≡ log.old.records ++ record { time = time; delta = delta; changes = values_of self.now.nets } ∷ [] }
     {
         log.append_all(time, delta, self.values.seen().values);

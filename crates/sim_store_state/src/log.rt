@@ -1,15 +1,18 @@
 //! The records of a run, in flat lists.
 
-ghost use Rattle.std.specs.Prelude.{ℕ, suc, ◌≡◌, ◌≢◌, ◌≤◌, ◌<◌, ◌+◌, ◌-◌, ◌^◌, ◌==◌, List, [], ◌∷◌, ◌++◌, length, map, drop};
+ghost use Rattle.std.specs.Prelude.{ℕ, suc, ◌≡◌, ◌≢◌, ◌≤◌, ◌<◌, ◌+◌, ◌-◌, ◌^◌, ◌==◌, List, [], ◌∷◌, ◌++◌, length, map, drop, slice_set};
 ghost use Rattle.std.specs.Prelude.{Bool, true, false, if◌then◌else◌, MatchOption, OnOk, vec_len, vec_capacity};
 ghost use Rattle.std.specs.List.{enumerate_from};
-ghost use Rattle.sim_store_nets.specs.Nets.{AreTouched, views_of};
+ghost use Rattle.sim_store_nets.specs.Lists.{AreUnresolved, IsUnresolved, net_from, resolved_by};
+ghost use Rattle.sim_store_nets.specs.Nets.{value_at, views_of};
 ghost use Rattle.sim_standard.specs.Records.{all_changes, changes_from};
-ghost use Rattle.sim_store_state.specs.Log.{changed, changes_before, changes_of, count_times, last_record, recorded, records_in, IsNext};
+ghost use Rattle.sim_store_state.specs.Counting.{AreCountable, AreCounted, change_of};
+ghost use Rattle.sim_store_state.specs.Log.{changed, changes_before, changes_of, count_times, last_record, recorded, records_in};
+ghost use Rattle.sim_store_state.specs.Log.{HasRoom, IsNext};
 ghost use Rattle.sim_store_state.specs.Log as spec;
 
 use sim_logic::Logic;
-use sim_store_nets::UpdateLists;
+use sim_store_nets::{UpdateLists, Values};
 use std::alloc::{AllocError, Global};
 use std::marker::Model;
 
@@ -46,45 +49,71 @@ impl Entry {
     }
 }
 
-/// Appends the change of a net, if it has changed.
+/// Appends a change, and counts it.
 #[inline(always)]
-fn append_change(entries: &mut Vec<Entry>, number: usize, value: Logic, before: Logic)
-    requires few { number < 2 ^ 32 }
+fn append_change(entries: &mut Vec<Entry>, net: usize, value: Logic, totals: &mut [u64])
+    requires few { net < 2 ^ 32 }
     requires room { vec_len entries.old < vec_capacity entries.old }
-    ensures changed { value ≢ before → entries.new.items ≡ entries.old.items ++ changed (number, value) ∷ [] }
-    ensures same { value ≡ before → entries.new.items ≡ entries.old.items }
+    requires countable { AreCountable 1 totals.old }
     ensures capacity { vec_capacity entries.new ≡ vec_capacity entries.old }
-    ensures longer { vec_len entries.new ≤ vec_len entries.old + 1 }
+    ensures appended { entries.new.items ≡ entries.old.items ++ changed (net, value) ∷ [] }
+    ensures counted { AreCounted ((net, value) ∷ []) totals.old totals.new }
 {
-    if before != value {
-        entries.push_reserved(Entry::Change(value, number as u32));
+    entries.push_reserved(Entry::Change(value, net as u32));
+    if net < totals.len() {
+        totals[net] += 1;
     }
 }
 
-/// Appends the changes of nets, in net order. It looks only at touched nets; a single one costs no
-/// loop.
-pub(crate) fn append_changes(
+/// A net without an event takes the value of its sources. If it is a new one, the change is appended
+/// and counted.
+#[inline(always)]
+fn resolve_net(
     entries: &mut Vec<Entry>,
-    values: &[Logic],
-    values_before: &[Logic],
+    values: &mut Values,
     lists: &UpdateLists,
+    net: usize,
+    totals: &mut [u64],
 )
-    requires same { length values_before.now ≡ length values.now }
-    requires touched { AreTouched values.now values_before.now lists.now.touched }
-    requires few { length values.now < 2 ^ 32 }
-    requires room { vec_len entries.old + length values.now ≤ vec_capacity entries.old }
-    ensures appended { entries.new.items ≡ entries.old.items ++ map changed (changes_from 0 (views_of values.now values_before.now)) }
+    requires unresolved { IsUnresolved lists.now values.old net }
+    requires few { net < 2 ^ 32 }
+    requires room { vec_len entries.old < vec_capacity entries.old }
+    requires countable { AreCountable 1 totals.old }
+    ensures values { values.new ≡ record values.old { present = slice_set values.old.present net (net_from lists.now net) } }
     ensures capacity { vec_capacity entries.new ≡ vec_capacity entries.old }
+    ensures appended { entries.new.items ≡ entries.old.items ++ map changed (change_of net (net_from lists.now net) (value_at values.old.before net)) }
+    ensures counted { AreCounted (change_of net (net_from lists.now net) (value_at values.old.before net)) totals.old totals.new }
+{
+    if let Some(value) = values.resolve(lists, net) {
+        append_change(entries, net, value, totals);
+    }
+}
+
+/// Nets that may have an event take the values of their sources (14.7.5.3 d), in net order; the
+/// others have them already. Changes are appended and counted. It looks only at touched nets; a
+/// single one costs no loop.
+fn append_changes(
+    entries: &mut Vec<Entry>,
+    values: &mut Values,
+    lists: &UpdateLists,
+    totals: &mut [u64],
+)
+    requires unresolved { AreUnresolved lists.now values.old }
+    requires few { length values.old.present < 2 ^ 32 }
+    requires room { vec_len entries.old + length values.old.present ≤ vec_capacity entries.old }
+    requires countable { AreCountable (length values.old.present) totals.old }
+    ensures values { values.new ≡ resolved_by lists.now values.old }
+    ensures capacity { vec_capacity entries.new ≡ vec_capacity entries.old }
+    ensures appended { entries.new.items ≡ entries.old.items ++ map changed (changes_from 0 (views_of values.new.present values.new.before)) }
+    ensures counted { AreCounted (changes_from 0 (views_of values.new.present values.new.before)) totals.old totals.new }
 {
     let nets = lists.touched();
     if nets.len() == 1 {
-        let only = nets[0];
-        append_change(entries, only, values[only], values_before[only]);
+        resolve_net(entries, values, lists, nets[0], totals);
         return;
     }
     for place in 0..nets.len() {
-        let number = nets[place];
-        append_change(entries, number, values[number], values_before[number]);
+        resolve_net(entries, values, lists, nets[place], totals);
     }
 }
 
@@ -245,39 +274,39 @@ impl Log {
     pub fn reserve(&mut self, changes: usize) -> Result<(), AllocError>
         requires few { changes < 2 ^ 32 }
         ensures same { self.new.records ≡ self.old.records }
-        ensures time { OnOk result (0 < self.new.times_room) }
-        ensures entries { OnOk result (changes < self.new.entries_room) }
+        ensures room { OnOk result (HasRoom self.new changes) }
     {
         self.times.reserve(1)?;
         self.entries.reserve(changes + 1)?;
         Ok(())
     }
 
-    /// Appends a record of the nets that changed, all of which are touched. There is room for it,
-    /// so it takes no memory.
+    /// Nets that may have an event take the values of their sources (14.7.5.3 d). Those with a new
+    /// one are counted, and appended as a record. There is room for it, so it takes no memory.
     pub(crate) fn append(
         &mut self,
         time: u64,
         delta: u64,
-        values: &[Logic],
-        values_before: &[Logic],
+        values: &mut Values,
         lists: &UpdateLists,
+        totals: &mut [u64],
     )
-        requires same { length values_before.now ≡ length values.now }
-        requires touched { AreTouched values.now values_before.now lists.now.touched }
-        requires few { length values.now < 2 ^ 32 }
+        requires unresolved { AreUnresolved lists.now values.old }
+        requires few { length values.old.present < 2 ^ 32 }
         requires next { IsNext self.old.records time delta }
-        requires time { 0 < self.old.times_room }
-        requires entries { length values.now < self.old.entries_room }
-        ensures { self.new.records ≡ self.old.records ++ record {
+        requires room { HasRoom self.old (length values.old.present) }
+        requires countable { AreCountable (length values.old.present) totals.old }
+        ensures values { values.new ≡ resolved_by lists.now values.old }
+        ensures records { self.new.records ≡ self.old.records ++ record {
           time = time;
           delta = delta;
           changes = changes_from 0
-              (views_of values.now values_before.now);
+              (views_of values.new.present values.new.before);
         } ∷ [] }
+        ensures counted { AreCounted (changes_from 0 (views_of values.new.present values.new.before)) totals.old totals.new }
     {
         let start = self.entries.len();
-        append_changes(&mut self.entries, values, values_before, lists);
+        append_changes(&mut self.entries, values, lists, totals);
         self.changes += self.entries.len() - start;
         begin_record(&mut self.times, &mut self.entries, start, time, delta);
         self.records += 1;
@@ -288,8 +317,7 @@ impl Log {
     pub(crate) fn append_all(&mut self, time: u64, delta: u64, values: &[Logic])
         requires few { length values.now < 2 ^ 32 }
         requires next { IsNext self.old.records time delta }
-        requires time { 0 < self.old.times_room }
-        requires entries { length values.now < self.old.entries_room }
+        requires room { HasRoom self.old (length values.now) }
         ensures { self.new.records ≡ self.old.records ++ record { time = time; delta = delta; changes = enumerate_from 0 values.now } ∷ [] }
     {
         let start = self.entries.len();

@@ -1,17 +1,18 @@
 use Rattle.std.proofs.Common.{ℕ, suc, ◌+◌, ◌-◌, ◌<◌, ◌≡◌, ◌&&◌, ◌||◌, not, Bool, false, ◌++◌, [], ◌∷◌, List, length, get_or, Some, ap, sym, ◌∙◌, subst, arith}
 use Rattle.std.proofs.lemmas.List.{length-append, length-replicate}
-use Rattle.std.specs.List.{filter}
 use Rattle.sim_containers.proofs.Flat.{written_back}
 use Rattle.sim_standard.specs.declared.record.Record.{Record}
-use Rattle.sim_store_state.specs.Log.{record_at, IsNext}
+use Rattle.sim_store_state.specs.Counting.{AreCounted}
+use Rattle.sim_store_state.specs.Log.{last_record, IsNext}
+use Rattle.sim_store_state.proofs.Logged.{last-pushed}
 use Rattle.sim_standard.specs.Records.{changes_from}
 use Rattle.sim_standard.specs.Cycle.{CycleAt}
 use Rattle.sim_store_state.specs.Sensitive.{has_event_in}
 use Rattle.sim_standard.specs.Processes.{process_at}
-use Rattle.sim_standard.specs.Agreement.{is_of}
 use Rattle.sim_store_simulation.specs.Simulation.{ArePostponed, AreTotals, Simulation, IsExecuted, after, next_after, reached, those_in}
-use Rattle.sim_store_simulation.proofs.Counting.{changes-few, last-record, totals-few, totals-go-on}
-use Rattle.sim_store_simulation.proofs.Going.{advanced-count, advanced-keeps, advanced-time, cycle-count, next-time-is, none-marked-for, slow, state_of}
+use Rattle.sim_store_simulation.proofs.Counting.{totals-few, totals-go-on}
+use Rattle.sim_store_simulation.proofs.Going.{advanced-count, advanced-keeps, advanced-time, cycle-count, net-count}
+use Rattle.sim_store_simulation.proofs.Going.{next-time-is, none-marked-for, slow, state_of}
 use Rattle.sim_store_simulation.proofs.Recorded.{next-recorded}
 use Rattle.sim_store_simulation.specs.declared.simulation.Contents.{Contents}
 use Rattle.sim_store_simulation.specs.Contents.{IsOf, simulation_of}
@@ -31,65 +32,49 @@ reserve-requires c =
     let kept = held c.self.inside.design c.deref_mut-contents.ensures.value c.self.invariant in
     omega (arith, ap length c.nets-nets.ensures.value, kept.state.few)
 
-pub update-requires : goal.update-requires
-update-requires c =
+pub update-requires-clause-time : goal.update-requires-clause-time
+update-requires-clause-time c =
     let kept = held c.self.inside.design c.deref_mut-contents.ensures.value c.self.invariant in
     let view = shown c.self.inside.design c.deref_mut-contents.ensures.value c.self.view_is in
     let done = subst IsExecuted (sym view) c.requires.executed in
     next-time-is kept.state done c.args.time (subst (λ (g : Simulation). next_after g ≡ Some (CycleAt c.args.time)) (sym view) c.requires.next)
 
-pub record-requires-clause-few : goal.record-requires-clause-few
-record-requires-clause-few c =
+pub update-requires-clause-few : goal.update-requires-clause-few
+update-requires-clause-few c =
     let kept = held c.self.inside.design c.deref_mut-contents.ensures.value c.self.invariant in
-    let view = shown c.self.inside.design c.deref_mut-contents.ensures.value c.self.view_is in
-    let s = c.self.inside in
-    let done = subst IsExecuted (sym view) c.requires.executed in
-    let count = advanced-count kept.state done c.args.time c.update.new.self c.update.ensures in
-    omega (arith, count, kept.state.few)
+    omega (arith, net-count kept.state, kept.state.few)
 
-pub record-requires-clause-next : goal.record-requires-clause-next
-record-requires-clause-next c =
+pub update-requires-clause-next : goal.update-requires-clause-next
+update-requires-clause-next c =
     let kept = held c.self.inside.design c.deref_mut-contents.ensures.value c.self.invariant in
     subst (λ (rs : List Record). IsNext rs c.args.time c.next_delta-contents.result) (sym c.in_ok-reserve.ensures.same)
     (next-recorded kept.state c.args.time c.next_delta-contents.result c.next_delta-contents.ensures)
 
-pub record-requires-clause-entries : goal.record-requires-clause-entries
-record-requires-clause-entries c =
+pub update-requires-clause-room : goal.update-requires-clause-room
+update-requires-clause-room c =
+    let kept = held c.self.inside.design c.deref_mut-contents.ensures.value c.self.invariant in
+    let room = c.in_ok-reserve.ensures.room in
+    record { time = room.time; entries = omega (arith, room.entries, net-count kept.state, ap length c.nets-nets.ensures.value) }
+
+pub update-requires-clause-countable : goal.update-requires-clause-countable
+update-requires-clause-countable c n =
+    let m = c.deref_mut-contents.result.now in
     let kept = held c.self.inside.design c.deref_mut-contents.ensures.value c.self.invariant in
     let view = shown c.self.inside.design c.deref_mut-contents.ensures.value c.self.view_is in
-    let done = subst IsExecuted (sym view) c.requires.executed in
-    let count = advanced-count kept.state done c.args.time c.update.new.self c.update.ensures in
-    omega (arith, count, ap length c.nets-nets.ensures.value, c.in_ok-reserve.ensures.entries)
+    let few : (simulation_of c.self.inside.design m).cycles < 4294967296 = subst (λ (g : Simulation). g.cycles < 4294967296) (sym view) c.requires.bound in
+    omega (
+      arith,
+      few,
+      net-count kept.state,
+      kept.state.few,
+      ap (λ (w : List ℕ). get_or w n 0) c.as_mut_slice.ensures.value,
+      totals-few kept.state m.totals.items kept.counts n,
+    )
 
 pub find-requires-clause-processes : goal.find-requires-clause-processes
 find-requires-clause-processes c =
     let kept = held c.self.inside.design c.deref_mut-contents.ensures.value c.self.invariant in
     omega (arith, ap length c.leave.ensures.postponed, kept.marked.sized, kept.state.due_sized)
-
-pub count_last-requires-clause-room : goal.count_last-requires-clause-room
-count_last-requires-clause-room c n =
-    let m = c.deref_mut-contents.result.now in
-    let kept = held c.self.inside.design c.deref_mut-contents.ensures.value c.self.invariant in
-    let view = shown c.self.inside.design c.deref_mut-contents.ensures.value c.self.view_is in
-    let s = c.self.inside in
-    let i = kept.state in
-    let few : (simulation_of s.design m).cycles < 4294967296 = subst (λ (g : Simulation). g.cycles < 4294967296) (sym view) c.requires.bound in
-    let done = subst IsExecuted (sym view) c.requires.executed in
-    let count = advanced-count i done c.args.time c.update.new.self c.update.ensures in
-    let one : Record = record { time = c.args.time; delta = c.next_delta-contents.result; changes = changes_from 0 c.update.new.self.nets } in
-    let records : c.record.new.log.records ≡ m.log.records ++ one ∷ [] = c.record.ensures ∙ ap (λ rs. rs ++ one ∷ []) c.in_ok-reserve.ensures.same in
-    let last = last-record m.log.records c.record.new.log.records one records in
-    let now : get_or c.as_mut_slice.result.now n 0 ≡ get_or m.totals.items n 0 = ap (λ w. get_or w n 0) c.as_mut_slice.ensures.value in
-    omega (
-      arith,
-      few,
-      count,
-      i.few,
-      now,
-      ap (λ (r : Record). length r.changes) last,
-      changes-few c.update.new.self.nets,
-      totals-few i m.totals.items kept.counts n,
-    )
 
 pub invariant_of-self-2 : goal.invariant_of-self-2
 invariant_of-self-2 c =
@@ -102,19 +87,18 @@ invariant_of-self-2 c =
     let done = subst IsExecuted (sym view) c.requires.executed in
     let next = next-time-is i done c.args.time (subst (λ (g : Simulation). next_after g ≡ Some (CycleAt c.args.time)) (sym view) c.requires.next) in
     let one : Record = record { time = c.args.time; delta = c.next_delta-contents.result; changes = changes_from 0 c.update.new.self.nets } in
-    let records : c.record.new.log.records ≡ m.log.records ++ one ∷ [] = c.record.ensures ∙ ap (λ rs. rs ++ one ∷ []) c.in_ok-reserve.ensures.same in
+    let records : c.update.new.log.records ≡ m.log.records ++ one ∷ [] = c.update.ensures.records ∙ ap (λ rs. rs ++ one ∷ []) c.in_ok-reserve.ensures.same in
     let same : c.find.new.waiting.postponed ≡ m.waiting.postponed = c.find.ensures.postponed ∙ c.leave.ensures.postponed in
     let marks = none-marked-for kept.state m.deposited kept.marks_sized in
-    let last = last-record m.log.records c.record.new.log.records one records in
-    let changes = ap (λ (r : Record). r.changes) last in
-    let sensed = kept.compiled.sensitive_sized ∙ sym (advanced-count i done c.args.time c.update.new.self c.update.ensures) in
-    let written = written_back c.count_last.new.totals m.totals.items m.totals.len (c.count_last.ensures.sized ∙ c.as_mut_slice.ensures.len) in
+    let changes = ap (λ (r : Record). r.changes) (ap last_record records ∙ last-pushed m.log.records one) in
+    let sensed = kept.compiled.sensitive_sized ∙ sym (advanced-count i done c.args.time c.update.new.self c.update.ensures.state) in
+    let written = written_back c.update.new.totals m.totals.items m.totals.len (c.update.ensures.counted.sized ∙ c.as_mut_slice.ensures.len) in
     subst (λ (w : Contents). IsOf s.design w) (sym c.begin_phase.ensures) (record {
       compiled = kept.compiled;
       marked = subst (ArePostponed s.design) (sym same) kept.marked;
-      state = advanced-keeps i done c.args.time next c.requires.early c.next_delta-contents.result (length c.record.new.log.records - 1)
-          c.update.new.self c.record.new.log.records m.waiting.postponed c.find.new.self c.find.new.waiting.waiting _ c.next_delta-contents.ensures
-          c.update.ensures records c.find.ensures.sized (c.find.ensures.waiting_sized ∙ c.leave.ensures.sized)
+      state = advanced-keeps i done c.args.time next c.requires.early c.next_delta-contents.result (length c.update.new.log.records - 1)
+          c.update.new.self c.update.new.log.records m.waiting.postponed c.find.new.self c.find.new.waiting.waiting _ c.next_delta-contents.ensures
+          c.update.ensures.state records c.find.ensures.sized (c.find.ensures.waiting_sized ∙ c.leave.ensures.sized)
           kept.marked.are
           (λ p lt. c.find.ensures.found c.update.new.self.nets h.design.processes p changes sensed kept.compiled.sensitive_are lt
           ∙ ap (λ (ps : List Bool). has_event_in c.update.new.self.nets (process_at h.design.processes p).sensitivity && not (those_in ps p))
@@ -127,14 +111,10 @@ invariant_of-self-2 c =
           (c.leave.ensures.left p))) marks
           (omega (arith, ap length records, length-append m.log.records (one ∷ []), cycle-count i));
       marks_sized = length-replicate (length m.deposited) false ∙ kept.marks_sized;
-      counts = subst (AreTotals (length s.design.nets) c.record.new.log.records) (sym written)
-          (totals-go-on (length s.design.nets) m.log.records c.record.new.log.records one m.totals.items c.count_last.new.totals
+      counts = subst (AreTotals (length s.design.nets) c.update.new.log.records) (sym written)
+          (totals-go-on (length s.design.nets) m.log.records c.update.new.log.records one m.totals.items c.update.new.totals
           (omega (arith, cycle-count i)) records kept.counts
-          (c.count_last.ensures.sized ∙ ap length c.as_mut_slice.ensures.value)
-          (λ n lt. c.count_last.ensures.counted n (omega (arith, lt, ap length c.as_mut_slice.ensures.value))
-          ∙ (ap (λ (w : List ℕ). get_or w n 0 + length (filter (is_of n) (record_at c.record.new.log.records (length c.record.new.log.records - 1)).changes))
-          c.as_mut_slice.ensures.value
-          ∙ ap (λ (r : Record). get_or m.totals.items n 0 + length (filter (is_of n) r.changes)) last)));
+          (subst (λ (w : List ℕ). AreCounted one.changes w c.update.new.totals) c.as_mut_slice.ensures.value c.update.ensures.counted));
     })
 
 pub returns-clause-ok : goal.returns-clause-ok
@@ -144,9 +124,9 @@ returns-clause-ok c =
     let view = shown c.self.inside.design c.deref_mut-contents.ensures.value c.self.view_is in
     let s = c.self.inside in
     let one : Record = record { time = c.args.time; delta = c.next_delta-contents.result; changes = changes_from 0 c.update.new.self.nets } in
-    let records : c.record.new.log.records ≡ m.log.records ++ one ∷ [] = c.record.ensures ∙ ap (λ rs. rs ++ one ∷ []) c.in_ok-reserve.ensures.same in
+    let records : c.update.new.log.records ≡ m.log.records ++ one ∷ [] = c.update.ensures.records ∙ ap (λ rs. rs ++ one ∷ []) c.in_ok-reserve.ensures.same in
     let marks = none-marked-for kept.state m.deposited kept.marks_sized in
-    let cycles : length c.record.new.log.records - 1 ≡ suc (length m.log.records - 1) =
+    let cycles : length c.update.new.log.records - 1 ≡ suc (length m.log.records - 1) =
     omega (arith, ap length records, length-append m.log.records (one ∷ []), cycle-count kept.state) in
     ap (simulation_of s.design) c.begin_phase.ensures ∙ rw (cycles, marks) (ap after view)
 
@@ -161,8 +141,8 @@ returns-clause-at c =
     let done = subst IsExecuted (sym view) c.requires.executed in
     let next = next-time-is i done c.args.time (subst (λ (g : Simulation). next_after g ≡ Some (CycleAt c.args.time)) (sym view) c.requires.next) in
     let one : Record = record { time = c.args.time; delta = c.next_delta-contents.result; changes = changes_from 0 c.update.new.self.nets } in
-    let records : c.record.new.log.records ≡ m.log.records ++ one ∷ [] = c.record.ensures ∙ ap (λ rs. rs ++ one ∷ []) c.in_ok-reserve.ensures.same in
-    let cycles : length c.record.new.log.records - 1 ≡ suc h.cycles =
+    let records : c.update.new.log.records ≡ m.log.records ++ one ∷ [] = c.update.ensures.records ∙ ap (λ rs. rs ++ one ∷ []) c.in_ok-reserve.ensures.same in
+    let cycles : length c.update.new.log.records - 1 ≡ suc h.cycles =
     omega (arith, ap length records, length-append m.log.records (one ∷ []), cycle-count i) in
     subst (λ (w : Contents). (reached (simulation_of s.design w)).time ≡ c.args.time) (sym c.begin_phase.ensures)
     (subst (λ (k : ℕ). (state_of s.design k).time ≡ c.args.time) (sym cycles) (advanced-time i done c.args.time next))

@@ -14,8 +14,7 @@ append_all-requires c =
     record {
       few = omega (arith, c.requires.few, n, v);
       next = c.requires.next;
-      time = c.requires.time;
-      entries = omega (arith, c.requires.entries, n, v);
+      room = record { time = c.requires.room.time; entries = omega (arith, c.requires.room.entries, n, v) };
     }
 
 pub returns : goal.returns

@@ -10,7 +10,7 @@ begin_record-requires-clause-room c =
     room-after c.self.inside.entries.items c.append_values.new.entries.items (enumerate_from 0 c.args.values.now) _ _ _ _ _ _
     c.append_values.ensures.appended c.self.inside.entries.ok.0 c.append_values.new.entries.ok.0
     (omega (arith, length-enumerate_from 0 c.args.values.now))
-    c.append_values.ensures.capacity (sym (ap (λ (l : Logged). l.entries_room) c.self.view_is)) c.requires.entries
+    c.append_values.ensures.capacity (sym (ap (λ (l : Logged). l.entries_room) c.self.view_is)) c.requires.room.entries
 
 pub invariant_of-self : goal.invariant_of-self
 invariant_of-self c =
