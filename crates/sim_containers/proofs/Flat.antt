@@ -2,7 +2,7 @@
 use Rattle.std.proofs.Common.{ℕ, zero, suc, ◌+◌, ◌-◌, ◌<◌, ◌≤◌, ◌≡◌, ◌++◌, List, [], ◌∷◌, length, get_or, set, take, drop, map, add-one, refl, ap, sym, ◌∙◌}
 use Rattle.std.proofs.Common.{subst, arith, append_assoc, length-append, length-drop}
 use Rattle.std.specs.Prelude.{slice_range}
-use Rattle.std.proofs.lemmas.List.{append-nil, map-append, length-map, length-take, take_at, drop_at, get_or-set_same}
+use Rattle.std.proofs.lemmas.List.{append-nil, map-append, length-take, take_at, drop_at, get_or-set_same}
 use Rattle.sim_containers.specs.RowArray.{joined, starts_from, rows, IsFlat}
 
 pub length-starts_from : {A : Type 0} (n : ℕ) (xss : List (List A)) → length (starts_from n xss) ≡ length xss + 1
@@ -192,23 +192,6 @@ pushed_back {starts = starts} {flat = flat} i e row flat' starts₁ starts₂ m 
 pub joined-map : {A B : Type 0} (f : A → B) (xss : List (List A)) → joined (map (map f) xss) ≡ map f (joined xss)
 joined-map f [] = refl
 joined-map f (xs ∷ xss) = ap (λ w. map f xs ++ w) (joined-map f xss) ∙ sym (map-append f xs (joined xss))
-
-pub starts-map : {A B : Type 0} (f : A → B) (n : ℕ) (xss : List (List A)) → starts_from n (map (map f) xss) ≡ starts_from n xss
-starts-map f n [] = refl
-starts-map f n (xs ∷ xss) = rw (length-map xs f) (ap (λ w. n ∷ w) (starts-map f (n + length xs) xss))
-
-pub mapped_back : {A : Type 0} {xss yss : List (List A)} {starts : List ℕ} {flat : List A} (f : A → A) → IsFlat xss starts flat → xss ≡ yss → (n : ℕ)
-    (flat' now : List A)
-    → flat' ≡ flat → now ≡ map f flat' → n ≡ length flat → IsFlat (map (map f) yss) starts (take n (now ++ drop (length now) flat))
-mapped_back {yss = yss} {starts = starts} {flat = flat} f i e n flat' now el en k =
-    let j = subst (λ w. IsFlat w starts flat) e i in
-    let m : now ≡ map f flat = en ∙ ap (map f) el in
-    let done : IsFlat (map (map f) yss) starts (map f flat) = record {
-      starting = j.starting ∙ sym (starts-map f 0 yss);
-      holding = ap (map f) j.holding ∙ sym (joined-map f yss);
-    } in
-    let l : length now ≡ n = omega (arith, ap length m, length-map flat f) in
-    rw (written_back now flat n l, m) done
 
 -- a part of the flat list holds another list of the same length, wherever that came from
 pub part_back : {A : Type 0} {xss yss : List (List A)} {starts : List ℕ} {flat : List A} → IsFlat xss starts flat → xss ≡ yss

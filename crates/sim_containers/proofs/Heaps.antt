@@ -1,10 +1,10 @@
 -- What the entries of the heap say about the times.
-use Rattle.std.proofs.Common.{ℕ, zero, suc, ◌<◌, ◌≤◌, ◌+◌, ◌≡◌, ◌≢◌, true, false, List, [], ◌∷◌, length, set, refl, ap, sym, subst, arith, inl, inr}
+use Rattle.std.proofs.Common.{ℕ, zero, suc, ◌<◌, ◌+◌, ◌≡◌, ◌≢◌, true, false, List, [], ◌∷◌, length, set, refl, ap, sym, subst, arith, inl, inr}
 use Rattle.std.proofs.Common.{◌⊎◌, Option, None, Some}
 use Rattle.std.proofs.lemmas.Bool.Decides.{nat_tests}
 use Rattle.std.proofs.lemmas.List.Sorted.{Contains-permutation}
 use Rattle.std.proofs.lemmas.Option.{same_Some}
-use Rattle.std.specs.List.{Contains, AllByRecursion}
+use Rattle.std.specs.List.{Contains}
 use Rattle.std.specs.List.Sorted.{IsPermutation}
 use Rattle.sim_containers.specs.Times.{is_at, time_of}
 use Rattle.sim_containers.specs.Entries.{Entry, entry, is_live, StandsBut}
@@ -21,11 +21,6 @@ first_or_behind x y xs (suc k, l, e) = inr (k, omega arith, e)
 
 pub none_in_empty : {X : Type 0} (xs : List X) (y : X) → length xs ≡ 0 → Contains xs y → ⊥
 none_in_empty xs y e (k, l, q) = omega arith
-
-pub of_each : {X : Type 0} (P : X → Type 0) (xs : List X) (y : X) → AllByRecursion P xs → Contains xs y → P y
-of_each P [] y a (k, l, e) = absurd (omega arith)
-of_each P (x ∷ xs) y a (zero, l, e) = subst P e a.0
-of_each P (x ∷ xs) y a (suc k, l, e) = of_each P xs y a.1 (k, omega arith, e)
 
 -- the test of a time
 pub at_from_time : (time : ℕ) (t : Option ℕ) → t ≡ Some time → is_at time t ≡ true
@@ -92,11 +87,6 @@ stands_upto now later times i old new before kept put d t l e other beyond = go 
     go : (d < i) ⊎ (d ≡ i) → Contains new (entry t d)
     go (inl m) = kept (entry t d) (before d t m e other beyond)
     go (inr q) = subst (λ (k : ℕ). Contains new (entry t k)) (sym q) (put t (subst (λ (k : ℕ). time_of times k ≡ Some t) q e) other beyond)
-
-pub stands_from_all : (now later : ℕ) (times : List (Option ℕ)) (items : List Entry) (n : ℕ) → length times ≤ n
-    → ((d t : ℕ) → d < n → time_of times d ≡ Some t → t ≢ now → t ≢ later → Contains items (entry t d)) → StandsBut now later times items
-stands_from_all now later times items n le all d t e other beyond =
-    let l : d < length times = within_from_time times d t e in all d t (omega arith) e other beyond
 
 -- one more entry
 pub kept_by_push : (old new : List Entry) (x : Entry) → IsPermutation (x ∷ old) new → (e : Entry) → Contains old e → Contains new e

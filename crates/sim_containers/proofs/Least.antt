@@ -1,27 +1,18 @@
 -- The least time is that of the top.
-use Rattle.std.proofs.Common.{ℕ, zero, suc, ◌<◌, ◌≤◌, ◌≡◌, ◌≢◌, min, eqb, ltb, Bool, true, false, List, [], ◌∷◌, length, get_or, refl, ap, sym, ◌∙◌}
+use Rattle.std.proofs.Common.{ℕ, zero, suc, ◌<◌, ◌≤◌, ◌≡◌, ◌≢◌, min, eqb, Bool, true, false, List, [], ◌∷◌, length, get_or, refl, ap, sym, ◌∙◌}
 use Rattle.std.proofs.Common.{arith, inl, inr, ◌⊎◌, Option, None, Some, IfSome, IfNone, subst}
 use Rattle.std.proofs.Math.ListN.{replicate}
 use Rattle.std.proofs.lemmas.Bool.Decides.{nat_tests}
 use Rattle.std.proofs.lemmas.Option.{same_Some}
-use Rattle.std.specs.BinaryHeap.{lt_by_cmp}
 use Rattle.std.specs.List.{Contains}
 use Rattle.std.specs.Prelude.{MatchOption, ⊤}
 use Rattle.sim_containers.specs.Numbers.{is_in}
 use Rattle.sim_containers.specs.Times.{time_of, cleared, earlier, earliest}
-use Rattle.sim_containers.specs.Entries.{Entry, entry, entry_cmp, HasLiveTop, IsQueue}
+use Rattle.sim_containers.specs.Entries.{Entry, entry, HasLiveTop, IsQueue}
 use Rattle.sim_containers.proofs.Heaps.{at_from_time, none_in_empty, time_from_at}
 use Rattle.sim_containers.proofs.Sets.{some_member}
 use Rattle.sim_containers.proofs.Queues.{still_there}
 use Rattle.sim_containers.proofs.Taking.{cleared_time, in_those_at}
-
--- an entry that is not less than another
-pub no_later : (x y : Entry) → lt_by_cmp entry_cmp x y ≡ false → x.0.0 ≤ y.0.0
-no_later x y h = go (ltb y.0.0 x.0.0) refl
-  where
-    go : (b : Bool) → ltb y.0.0 x.0.0 ≡ b → x.0.0 ≤ y.0.0
-    go true q = let h' = rw q at h in absurd cc
-    go false q = grind (arith, nat_tests)
 
 -- if no driver has a time
 pub earliest_of_none : (times : List (Option ℕ)) → ((d t : ℕ) → time_of times d ≡ Some t → ⊥) → earliest times ≡ None

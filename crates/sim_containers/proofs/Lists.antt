@@ -1,5 +1,5 @@
 -- Sets held as lists of their members.
-use Rattle.std.proofs.Common.{ℕ, zero, suc, ◌+◌, ◌<◌, ◌≤◌, ◌≡◌, ◌≢◌, ◌⊎◌, inl, inr, Bool, true, false, ◌||◌, List, [], ◌∷◌, ◌++◌, length, get_or}
+use Rattle.std.proofs.Common.{ℕ, zero, suc, ◌+◌, ◌<◌, ◌≤◌, ◌≡◌, ◌≢◌, ◌⊎◌, inl, inr, Bool, true, false, ◌||◌, List, [], ◌∷◌, ◌++◌, length}
 use Rattle.std.proofs.Common.{refl, ap, ◌∙◌, sym, subst, arith, eqb, replicate}
 use Rattle.std.proofs.lemmas.Bool.Decides.{nat_tests}
 use Rattle.std.proofs.lemmas.List.{append-nil, append_assoc, ext_get_or, get_or_past}
@@ -152,16 +152,6 @@ one_in x bound n lt = in_set_with (x ∷ []) bound n lt ∙ or_false (eqb x n)
 
 pub one_not_in : (x bound n : ℕ) → bound ≤ x → n < bound → is_in (set_with [] bound) n ≡ eqb x n
 one_not_in x bound n ge lt = in_set_with [] bound n lt ∙ sym (differs x n (omega (arith, ge, lt)))
-
-pub only_among : (set' : List Bool) (numbers : List ℕ) (x : ℕ) → length numbers ≡ 1 → x ≡ get_or numbers 0 0 → x < length set'
-    → ((n : ℕ) → n < length set' → is_in set' n ≡ eqb x n) → (n : ℕ) → is_in set' n ≡ is_among numbers n
-only_among set' [] x one e within test n = absurd (omega (arith, one))
-only_among set' (y ∷ z ∷ zs) x one e within test n = absurd (omega (arith, one))
-only_among set' (y ∷ []) x one e within test n = go (side n (length set'))
-  where
-    go : (n < length set') ⊎ (length set' ≤ n) → is_in set' n ≡ is_among (y ∷ []) n
-    go (inl lt) = test n lt ∙ (ap (λ (k : ℕ). eqb k n) e ∙ sym (or_false (eqb y n)))
-    go (inr ge) = get_or_past set' n false ge ∙ sym (ap (λ (b : Bool). b || false) (differs y n (omega (arith, e, within, ge))))
 
 -- ---- the bound of a list of numbers
 

@@ -1,8 +1,8 @@
 -- Numbers as bits of words.
-use Rattle.std.proofs.Common.{ℕ, ◌+◌, ◌*◌, ◌/◌, ◌%◌, ◌<◌, ◌≤◌, ◌≡◌, ◌≢◌, eqb, Bool, true, false, not, List, length, get_or, set, refl, ap, sym, ◌∙◌}
+use Rattle.std.proofs.Common.{ℕ, ◌+◌, ◌*◌, ◌/◌, ◌%◌, ◌<◌, ◌≤◌, ◌≡◌, ◌≢◌, eqb, Bool, true, false, not, List, length, get_or, refl, ap, sym, ◌∙◌}
 use Rattle.std.proofs.Common.{arith, inl, inr, ◌⊎◌}
 use Rattle.std.proofs.lemmas.Bool.Decides.{nat_tests}
-use Rattle.std.proofs.lemmas.List.{get_or-set_same, get_or-set_other, get_or_past}
+use Rattle.std.proofs.lemmas.List.{get_or_past}
 use Rattle.std.proofs.lemmas.Nat.{div-mul-add, mod-mul-add}
 use Rattle.sim_containers.specs.Words.{has, has_bit, uses, AreTops, IsNext, NoneFrom}
 use Rattle.sim_containers.proofs.Bits.{none_of_zero}
@@ -45,17 +45,6 @@ used_within words k e = go (side k (length words))
     go (inl l) = l
     go (inr le) = let some = used_word words k e in let none = get_or_past words k 0 le in omega arith
 
--- the first number is in the word itself
-pub first_here : (words : List ℕ) (from i : ℕ) → i < 64 → IsNext (has_bit (get_or words (from / 64) 0)) (from % 64) i
-    → IsNext (has words) from (from / 64 * 64 + i)
-first_here words from i l is =
-    let le : from % 64 ≤ i = is.further in
-    record {
-      further = omega arith;
-      passes = at_place words (from / 64) i l ∙ is.passes;
-      first = λ m ge lt. in_word words m (from / 64) (omega (arith, ge, lt)) ∙ is.first (m % 64) (omega (arith, ge, lt)) (omega (arith, ge, lt));
-    }
-
 -- no number before a later word
 none_before : (words : List ℕ) (from place : ℕ) → NoneFrom (has_bit (get_or words (from / 64) 0)) (from % 64) → ((k : ℕ) → from / 64 + 1 ≤ k
     → k < place → uses words k ≡ false)
@@ -92,9 +81,6 @@ pub none_there : (words : List ℕ) (from : ℕ) → NoneFrom (has_bit (get_or w
     → NoneFrom (has words) from
 none_there words from rest empty m ge = none_before words from (m / 64 + 1) rest (λ k le lt. empty k le) m ge (omega arith)
 
-pub none_past : (words : List ℕ) (from : ℕ) → length words ≤ from / 64 → NoneFrom (has words) from
-none_past words from past m ge = unused words m (get_or_past words (m / 64) 0 (omega (arith, past, ge)))
-
 -- the tops find the same word as the words
 pub next_by_tops : (words tops : List ℕ) (from place : ℕ) → AreTops words tops → IsNext (has tops) from place → IsNext (uses words) from place
 next_by_tops words tops from place same is = record {
@@ -105,24 +91,3 @@ next_by_tops words tops from place same is = record {
 
 pub none_by_tops : (words tops : List ℕ) (from : ℕ) → AreTops words tops → NoneFrom (has tops) from → NoneFrom (uses words) from
 none_by_tops words tops from same none m ge = sym (same m) ∙ none m ge
-
--- a number is added or removed
-pub marked : (words : List ℕ) (n word : ℕ) (b : Bool) → n / 64 < length words → has_bit word (n % 64) ≡ b
-    → ((i : ℕ) → i < 64 → i ≢ n % 64 → has_bit word i ≡ has_bit (get_or words (n / 64) 0) i)
-    → (has (set words (n / 64) word) n ≡ b) × ((m : ℕ) → m ≢ n → has (set words (n / 64) word) m ≡ has words m)
-marked words n word b l here others =
-    (ap (λ (w : ℕ). has_bit w (n % 64)) (get_or-set_same words (n / 64) word 0 l) ∙ here, λ m other. go m other (eqb (m / 64) (n / 64)) refl)
-  where
-    go : (m : ℕ) → m ≢ n → (b : Bool) → eqb (m / 64) (n / 64) ≡ b → has (set words (n / 64) word) m ≡ has words m
-    go m other true q =
-        let same : m / 64 ≡ n / 64 = grind (arith, nat_tests) in
-        let differ : m % 64 ≢ n % 64 = omega arith in
-        in_word (set words (n / 64) word) m (n / 64) same
-        ∙ (ap (λ (w : ℕ). has_bit w (m % 64)) (get_or-set_same words (n / 64) word 0 l) ∙ (others (m % 64) (omega arith) differ
-        ∙ sym (in_word words m (n / 64) same)))
-    go m other false q =
-        let differ : m / 64 ≢ n / 64 = grind (arith, nat_tests) in
-        ap (λ (w : ℕ). has_bit w (m % 64)) (get_or-set_other words (n / 64) (m / 64) word 0 differ)
-
-pub others_stay : (words : List ℕ) (place word : ℕ) → (k : ℕ) → k ≢ place → get_or (set words place word) k 0 ≡ get_or words k 0
-others_stay words place word k differ = get_or-set_other words place k word 0 differ

@@ -69,7 +69,7 @@ empty_of_none a [] none = refl
 empty_of_none a (x ∷ xs) none = λ i. none 0 i ∷ empty_of_none a xs (λ d. none (suc d)) i
 
 -- the time of a driver
-at_cleared : (time : ℕ) (times : List (Option ℕ)) (d : ℕ) → time_of (cleared time times) d ≡ clear time (time_of times d)
+pub at_cleared : (time : ℕ) (times : List (Option ℕ)) (d : ℕ) → time_of (cleared time times) d ≡ clear time (time_of times d)
 at_cleared time [] d = refl
 at_cleared time (x ∷ xs) zero = refl
 at_cleared time (x ∷ xs) (suc d) = at_cleared time xs d

@@ -1,9 +1,8 @@
 -- The steps of a walk that takes the drivers of one time out of the heap.
 use Rattle.std.proofs.Common.{ℕ, zero, suc, ◌<◌, ◌≤◌, ◌≡◌, ◌≢◌, eqb, Bool, true, false, cond, List, [], ◌∷◌, length, set, refl, ap, sym, ◌∙◌, subst}
 use Rattle.std.proofs.Common.{arith, inl, inr, ◌⊎◌, Option, None, Some}
-use Rattle.std.proofs.Math.ListN.{replicate}
 use Rattle.std.proofs.lemmas.Bool.Decides.{nat_tests}
-use Rattle.std.proofs.lemmas.List.{ext_get_or, get_or-set_same, get_or-set_other, length-map, length-replicate, length-set}
+use Rattle.std.proofs.lemmas.List.{ext_get_or, get_or-set_same, get_or-set_other, length-map, length-set}
 use Rattle.std.proofs.lemmas.List.Sorted.{Contains-permutation}
 use Rattle.std.proofs.lemmas.Option.{same_Some}
 use Rattle.std.specs.List.{Contains}
@@ -13,23 +12,12 @@ use Rattle.sim_containers.specs.Times.{is_at, time_of, clear, cleared, those_at}
 use Rattle.sim_containers.specs.Entries.{Entry, entry, is_live, IsTaking, NoneBefore, StandsBut}
 use Rattle.sim_containers.proofs.Bits.{not_both}
 use Rattle.sim_containers.proofs.Heaps.{at_from_time, first_or_behind, time_from_at, within_from_time}
-use Rattle.sim_containers.proofs.Sets.{in_none}
 
 -- the set of the drivers at a time
 pub in_those_at : (time : ℕ) (times : List (Option ℕ)) (d : ℕ) → is_in (those_at time times) d ≡ is_at time (time_of times d)
 in_those_at time [] d = refl
 in_those_at time (x ∷ xs) zero = refl
 in_those_at time (x ∷ xs) (suc d) = in_those_at time xs d
-
--- at the start
-pub none_taken : (now later time : ℕ) (times : List (Option ℕ)) (taken : List Bool) (items : List Entry) → taken ≡ replicate (length times) false
-    → StandsBut now later times items
-    → IsTaking now later time times taken items
-none_taken now later time times taken items e s = record {
-  sized = ap length e ∙ length-replicate (length times) false;
-  due = λ d here. absurd (not_both (is_in taken d) (ap (λ (set' : List Bool). is_in set' d) e ∙ in_none (length times) d) here);
-  stands = λ d t q other beyond. inr (s d t q other beyond);
-}
 
 -- a live entry has the time
 live_time : (times : List (Option ℕ)) (time : ℕ) (x : Entry) → NoneBefore time times → x.0.0 ≤ time → is_live times x ≡ true → x.0.0 ≡ time

@@ -100,15 +100,6 @@ impl NumberList {
         find_beside(self, others, first, from)
     }
 
-    /// Makes these the members of another set.
-    pub fn copy_to(&self, set: &mut NumberSet)
-        requires { length self.now ≡ length set.old }
-        ensures { set.new ≡ self.now }
-    {
-        set.clear();
-        insert_each(set, self);
-    }
-
     /// Removes all members.
     #[inline(always)]
     pub fn clear(&mut self)
@@ -213,19 +204,4 @@ fn find_beside(list: &NumberList, others: &NumberSet, first: usize, from: usize)
         least = number + 1;
     }
     None
-}
-
-/// Adds each member to an empty set.
-fn insert_each(set: &mut NumberSet, list: &NumberList)
-    requires none { set.old ≡ replicate (length list.now) false }
-    ensures { set.new ≡ list.now }
-{
-    let _count = list.len();
-    let mut place = 0;
-    let mut from = 0;
-    while let Some(number) = list.next_at(place, from) {
-        set.insert(number);
-        place = place.wrapping_add(1);
-        from = number + 1;
-    }
 }

@@ -4,7 +4,7 @@ ghost use Rattle.std.specs.Prelude.{ℕ, ◌≡◌, ◌<◌, ◌≤◌, ◌-◌,
 ghost use Rattle.std.specs.Prelude.{replicate, slice_set, slice_index_or, vec_capacity, vec_len, IfNone, IfOk, IfSome, IsTrue, MatchOption};
 ghost use Rattle.std.specs.List.{insert};
 ghost use Rattle.sim_containers.specs.Words.{IsNext, IsOnly, NoneFrom};
-ghost use Rattle.sim_containers.specs.Numbers.{is_beside, is_in, members};
+ghost use Rattle.sim_containers.specs.Numbers.{is_in, members};
 
 use crate::bit_set::BitSet;
 use crate::stamps::Stamps;
@@ -271,17 +271,6 @@ impl NumberSet {
         self.next(from)
     }
 
-    /// The least member that is at least `from` and not a member of another set.
-    pub fn next_beside(&self, others: &NumberSet, from: usize) -> Option<usize>
-        ensures { MatchOption result (NoneFrom (is_beside self.now others.now) from) (IsNext (is_beside self.now others.now) from) }
-    {
-        if from == 0 {
-            return find_beside(self, others, 0, 0);
-        }
-        let place = place_from(self.list.as_slice(), from);
-        find_beside(self, others, place, from)
-    }
-
     /// Removes all members. It visits them only if their order was lost.
     #[inline(always)]
     pub fn clear(&mut self)
@@ -510,24 +499,6 @@ fn clear_marked(bits: &mut BitSet, is_clear: bool)
         return;
     }
     bits.clear();
-}
-
-/// The least member that is at least `from` and not a member of another set. The members from
-/// `from` on begin at `first` in the list.
-fn find_beside(set: &NumberSet, others: &NumberSet, first: usize, from: usize) -> Option<usize>
-    ensures { MatchOption result (NoneFrom (is_beside set.now others.now) from) (IsNext (is_beside set.now others.now) from) }
-{
-    let _count = set.len();
-    let mut place = first;
-    let mut least = from;
-    while let Some(number) = set.next_at(place, least) {
-        if !others.contains(number) {
-            return Some(number);
-        }
-        place = place.wrapping_add(1);
-        least = number + 1;
-    }
-    None
 }
 
 /// Adds each number below the bound.

@@ -81,15 +81,6 @@ fn is_given(list: &mut NumberList, set: &NumberSet) -> bool {
     true
 }
 
-/// Gives the members of a list to a set, if both have one bound, and returns whether they have.
-fn is_given_back(list: &NumberList, set: &mut NumberSet) -> bool {
-    if list.len() != set.len() {
-        return false;
-    }
-    list.copy_to(set);
-    true
-}
-
 /// Whether a list of the numbers below ten takes the rows of the table as it says, and no row there is
 /// not.
 fn is_set_by_rows(list: &mut NumberList, rows: &RisingRows) -> bool {
@@ -131,22 +122,21 @@ fn has_members(list: &mut NumberList, set: &mut NumberSet) -> bool {
     is_given(list, set) && list.numbers() == [0, 3, 9].as_slice()
 }
 
-/// Whether a list of 0, 3 and 9 finds each next member, gives its members to a set, and has none once
-/// it is cleared.
-fn gives_members(list: &mut NumberList, set: &mut NumberSet) -> bool {
+/// Whether a list of 0, 3 and 9 finds each next member, and has none once it is cleared.
+fn finds_members(list: &mut NumberList, set: &mut NumberSet) -> bool {
     set_to(set, &[3]);
-    if !finds_each_next(list, set) || !is_given_back(list, set) {
+    if !finds_each_next(list, set) {
         return false;
     }
     list.clear();
-    set.contains(9) && !set.contains(4) && list.next(0).is_none()
+    list.next(0).is_none()
 }
 
 /// Whether this is true of a list and a set of the numbers below ten.
 fn are_exchanged(alloc: Global) -> Result<bool, AllocError> {
     let mut list = NumberList::new(alloc, 10)?;
     let mut set = NumberSet::new(alloc, 10)?;
-    Ok(has_members(&mut list, &mut set) && gives_members(&mut list, &mut set))
+    Ok(has_members(&mut list, &mut set) && finds_members(&mut list, &mut set))
 }
 
 #[test]

@@ -9,7 +9,7 @@ use Rattle.sim_standard.specs.Midway.{updated_in}
 use Rattle.sim_store.specs.declared.store.Step.{Step}
 use Rattle.sim_store.specs.declared.store.Step.TheVariants as step
 use Rattle.std.specs.Prelude.{IsSomeAnd, is_some}
-use Rattle.sim_store_simulation.specs.Simulation.{Simulation, IsComplete, IsExecuted, after, in_postponed_phase, next_after, or_first, reached, with_marks}
+use Rattle.sim_store_simulation.specs.Simulation.{Simulation, IsComplete, IsExecuted, after, next_after, or_first, reached, with_marks}
 use Rattle.sim_store_simulation.specs.declared.phase.Phase.{Phase}
 use Rattle.sim_store_simulation.specs.declared.phase.Phase.TheVariants as phase
 use Rattle.sim_store.specs.WaveStore.{WaveStore, IsStore, HasEnd}
@@ -48,19 +48,6 @@ store-goes-on w g time is running e next before apart at = record {
     still m lt false q =
         let other : m ≢ w.simulation.cycles = grind (arith, nat_tests) in
         is.going m (omega (arith, lt, other))
-
--- a run that goes on with postponed processes
-pub store-postponed : (w : WaveStore) (g : Simulation) → IsStore w → w.ended ≡ None → g ≡ in_postponed_phase w.simulation
-    → IsStore (record { simulation = g; stop = w.stop; limit = w.limit; ended = w.ended })
-store-postponed w g is running e = record {
-  early = is.early;
-  within = omega (arith, ap (λ (h : Simulation). h.cycles) e, is.within);
-  until = rw e is.until;
-  going = rw e is.going;
-  end = subst (λ (o : Option Step). MatchOption o (Unit {0})
-      (λ s. IsExecuted g × HasEnd (record { simulation = g; stop = w.stop; limit = w.limit; ended = w.ended }) s))
-      (sym running) tt;
-}
 
 -- a run whose processes were executed
 pub store-executed : (w : WaveStore) (marks : List Bool) → IsStore w → w.ended ≡ None

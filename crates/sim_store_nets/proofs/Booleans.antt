@@ -1,5 +1,5 @@
 -- Truth values, and whether numbers are among others.
-use Rattle.std.proofs.Common.{ℕ, suc, ◌+◌, ◌<◌, ◌≤◌, ◌≡◌, ◌≢◌, ◌==◌, ◌++◌, ◌||◌, ◌&&◌, eqb, Bool, true, false, List, [], ◌∷◌, length, get_or, set}
+use Rattle.std.proofs.Common.{ℕ, suc, ◌+◌, ◌<◌, ◌≡◌, ◌≢◌, ◌==◌, ◌++◌, ◌||◌, ◌&&◌, eqb, Bool, true, false, List, [], ◌∷◌, length, get_or, set}
 use Rattle.std.proofs.Common.{take, refl, ap, sym, ◌∙◌, arith, ◌⊎◌, inl, inr}
 use Rattle.std.proofs.lemmas.Bool.Decides.{nat_tests}
 use Rattle.std.proofs.lemmas.List.{get_or-set_same, get_or-set_other, take_more}
@@ -86,13 +86,6 @@ added sensitive net number n p lt = go (eqb net n) refl
         let apart : n ≢ net = grind (arith, nat_tests) in
         ap (λ w. is_among w p) (get_or-set_other sensitive net n (get_or sensitive net [] ++ number ∷ []) [] apart)
         ∙ sym (or_false (is_among (get_or sensitive n []) p))
-
-pub past-added : (sensitive : List (List ℕ)) (net number n p : ℕ) → n < length sensitive → length sensitive ≤ net
-    → is_among (get_or sensitive n []) p ≡ (is_among (get_or sensitive n []) p || ((net == n) && (number == p)))
-past-added sensitive net number n p lt le = let apart : eqb net n ≡ false = grind (
-  arith,
-  nat_tests,
-) in rw apart (sym (or_false (is_among (get_or sensitive n []) p)))
 
 -- one more is resumed, after those before it in the list
 pub resumed-more : (numbers : List ℕ) (i p n : ℕ) (was now new : Bool) → i < length numbers → n ≡ get_or numbers i 0 → now ≡

@@ -1,13 +1,11 @@
 -- The places of drivers among the sources of nets, as they are found.
-use Rattle.std.proofs.Common.{ℕ, zero, suc, ◌+◌, ◌<◌, ◌≡◌, ◌≢◌, ◌==◌, ◌++◌, ◌||◌, ◌&&◌, eqb, Bool, true, false, List, [], ◌∷◌, length, get_or, set, map}
+use Rattle.std.proofs.Common.{ℕ, zero, suc, ◌+◌, ◌<◌, ◌≡◌, ◌≢◌, ◌==◌, ◌++◌, ◌||◌, ◌&&◌, eqb, Bool, true, false, List, [], ◌∷◌, length, get_or, set}
 use Rattle.std.proofs.Common.{take, add-one, refl, ap, sym, ◌∙◌, arith}
-use Rattle.std.specs.Prelude.{if◌then◌else◌}
 use Rattle.std.proofs.lemmas.Bool.Decides.{nat_tests}
 use Rattle.std.proofs.lemmas.List.{get_or-set_same, get_or-set_other}
-use Rattle.sim_logic.specs.declared.logic.Logic.{Logic}
 use Rattle.sim_flat_design.specs.declared.design.Source.{Source}
-use Rattle.sim_store_nets.specs.Nets.{AreTallied, is_driver, tally_of, value_from}
-use Rattle.sim_store_nets.specs.Tallies.{TallyLists, is_many, is_placed, many, source_at}
+use Rattle.sim_store_nets.specs.Nets.{is_driver}
+use Rattle.sim_store_nets.specs.Tallies.{is_placed, many, source_at}
 use Rattle.sim_store_nets.proofs.Booleans.{or_false, or-assoc, and-or, at_same, at_other, eqb-suc}
 
 -- ---- one place more
@@ -97,37 +95,3 @@ net-more rows i n p d row was now new lt is e f =
     ∙ ap (λ k. is_driver (source_at (many (get_or (take k rows) n [])) p) d) (sym (add-one i))))))
 
 -- ---- all of it
-
-kept-or-none : (driving : List Logic) (row : List Source) (b : Bool) → 0 < length (map (value_from driving) (if b then row else []))
-    → (if b then row else []) ≡ row
-kept-or-none driving row true some = refl
-kept-or-none driving row false some = absurd (omega (arith, some))
-
-many-are-all : (driving : List Logic) (row : List Source) → 0 < length (tally_of driving row) → many row ≡ row
-many-are-all driving row some = kept-or-none driving row (is_many row) some
-
-net-row : (driving : List Logic) (sources : List (List Source)) (n : ℕ) → get_or (map (tally_of driving) sources) n [] ≡ tally_of driving (get_or sources n [])
-net-row driving [] n = refl
-net-row driving (row ∷ sources) zero = refl
-net-row driving (row ∷ sources) (suc n) = net-row driving sources n
-
-pub tallied-first : (sources : List (List Source)) (driving : List Logic) (t : TallyLists) → t.rows ≡ map (tally_of driving) sources
-    → ((n p d : ℕ) → d < length driving → is_placed (get_or t.places d []) n p ≡ is_driver (source_at (many (get_or sources n [])) p) d)
-    → AreTallied sources driving t
-tallied-first sources driving t er places = record {
-  kept = λ n some. row n ∙ ap (map (value_from driving)) (all n some);
-  placed = λ n p d below within. places n p d below ∙ ap (λ r. is_driver (source_at r p) d) (all n (omega (arith, within)));
-}
-  where
-    row : (n : ℕ) → get_or t.rows n [] ≡ tally_of driving (get_or sources n [])
-    row n = ap (λ w. get_or w n []) er ∙ net-row driving sources n
-
-    all : (n : ℕ) → 0 < length (get_or t.rows n []) → many (get_or sources n []) ≡ get_or sources n []
-    all n some = many-are-all driving (get_or sources n []) (omega (arith, some, ap length (row n)))
-
-pub tallied-none : (sources : List (List Source)) (driving : List Logic) (t : TallyLists) → t ≡ record { rows = []; places = [] }
-    → AreTallied sources driving t
-tallied-none sources driving t e = rw e (record {
-  kept = λ n some. absurd (omega (arith, some));
-  placed = λ n p d below within. absurd (omega (arith, within));
-})

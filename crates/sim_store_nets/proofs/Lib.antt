@@ -1,6 +1,5 @@
 pub mod Booleans
 pub mod Walks
-pub mod Ranges
 pub mod Views
 pub mod SourceValues
 pub mod Resolving

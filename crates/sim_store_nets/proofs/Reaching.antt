@@ -1,16 +1,10 @@
 -- Which nets the drivers reach.
-use Rattle.std.proofs.Common.{ℕ, zero, suc, ◌+◌, ◌<◌, ◌≡◌, ◌==◌, ◌++◌, ◌||◌, ◌&&◌, eqb, Bool, true, List, [], ◌∷◌, length, get_or, map}
+use Rattle.std.proofs.Common.{ℕ, zero, suc, ◌+◌, ◌<◌, ◌≡◌, ◌==◌, ◌++◌, ◌||◌, ◌&&◌, Bool, List, [], ◌∷◌, length, get_or}
 use Rattle.std.proofs.Common.{take, add-one, refl, ap, sym, ◌∙◌, arith}
-use Rattle.std.proofs.lemmas.Bool.Decides.{nat_tests}
 use Rattle.std.proofs.lemmas.List.{take_more}
 use Rattle.sim_flat_design.specs.declared.design.Source.{Source}
-use Rattle.sim_flat_design.specs.declared.design.Source.TheVariants as source
-use Rattle.sim_standard.specs.Drivers.{DriverState}
-use Rattle.sim_standard.specs.State.{driver_at}
-use Rattle.sim_standard.specs.Nets.{source_value}
-use Rattle.sim_store_nets.specs.Nets.{is_driver, is_source, row_value}
-use Rattle.sim_logic.specs.Resolution.{resolved}
-use Rattle.sim_store_nets.proofs.Booleans.{or_false, or-assoc, and-or, or_left, or_right, at_same, at_other, eqb-suc}
+use Rattle.sim_store_nets.specs.Nets.{is_driver, is_source}
+use Rattle.sim_store_nets.proofs.Booleans.{or_false, or-assoc, and-or, at_same, at_other, eqb-suc}
 
 fan_out-append : (xs ys : List Source) (d : ℕ) → is_source (xs ++ ys) d ≡ (is_source xs d || is_source ys d)
 fan_out-append [] ys d = refl
@@ -52,31 +46,3 @@ rows-more rows i n d row was now new lt is e f =
     ∙ ap (λ k. is_source (get_or (take k rows) n []) d) (sym (add-one i))))))
 
 -- ---- the value of a net depends on the values of its drivers alone
-
-pub same_source : (ds es : List DriverState) (s : Source) → ((d : ℕ) → is_driver s d ≡ true → (driver_at ds d).value ≡ (driver_at es d).value)
-    → source_value ds s ≡ source_value es s
-same_source ds es (source.Driver n) same = let t : eqb n n ≡ true = grind (arith, nat_tests) in same n t
-same_source ds es (source.Constant v) same = refl
-
-same_values : (ds es : List DriverState) (row : List Source) → ((d : ℕ) → is_source row d ≡ true → (driver_at ds d).value ≡ (driver_at es d).value)
-    → map (source_value ds) row ≡ map (source_value es) row
-same_values ds es [] same = refl
-same_values ds es (s ∷ row) same =
-    ap (λ v. v ∷ map (source_value ds) row) (same_source ds es s (λ d e. same d (or_left (is_driver s d) (is_source row d) e)))
-    ∙ ap (λ w. source_value es s ∷ w) (same_values ds es row (λ d e. same d (or_right (is_driver s d) (is_source row d) e)))
-
-pub same_row : (ds es : List DriverState) (row : List Source) → ((d : ℕ) → is_source row d ≡ true → (driver_at ds d).value ≡ (driver_at es d).value)
-    → row_value ds row ≡ row_value es row
-same_row ds es row same = ap resolved (same_values ds es row same)
-
-pub same_rows : (ds es : List DriverState) (rows : List (List Source)) → ((d : ℕ) → (driver_at ds d).value ≡ (driver_at es d).value)
-    → map (row_value ds) rows ≡ map (row_value es) rows
-same_rows ds es [] same = refl
-same_rows ds es (row ∷ rows) same =
-    ap (λ v. v ∷ map (row_value ds) rows) (same_row ds es row (λ d _. same d)) ∙ ap (λ w. row_value es row ∷ w) (same_rows ds es rows same)
-
--- a net that a driver reaches is there
-pub fan_out-there : (rows : List (List Source)) (n d : ℕ) → is_source (get_or rows n []) d ≡ true → n < length rows
-fan_out-there [] n d e = absurd cc
-fan_out-there (x ∷ rows) zero d e = omega arith
-fan_out-there (x ∷ rows) (suc n) d e = let h = fan_out-there rows n d e in omega (arith, h)

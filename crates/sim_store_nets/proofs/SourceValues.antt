@@ -1,6 +1,6 @@
 -- Values are written place by place, and those of nets are made from those of drivers.
 use Rattle.std.proofs.Common.{ℕ, zero, suc, ◌+◌, ◌<◌, ◌≡◌, Bool, List, [], ◌∷◌, length, get_or, map, set, refl, ap, sym, ◌∙◌, arith}
-use Rattle.std.proofs.lemmas.List.{get_or-set_same, get_or-set_other, get_or_default, get_or-map, length-map, map-set, same_lists}
+use Rattle.std.proofs.lemmas.List.{get_or-set_same, get_or-set_other, get_or_default, get_or-map, length-map, same_lists}
 use Rattle.sim_logic.specs.declared.logic.Logic.{Logic}
 use Rattle.sim_logic.specs.declared.logic.Logic.TheVariants.{U}
 use Rattle.sim_logic.specs.Resolution.{resolved}
@@ -60,10 +60,6 @@ pub rows-from : (ds : List DriverState) (rows : List (List Source)) → map (row
 rows-from ds [] = refl
 rows-from ds (row ∷ rows) =
     ap (λ v. v ∷ map (row_from (driver_values ds)) rows) (row-from ds row) ∙ ap (λ vs. row_value ds row ∷ vs) (rows-from ds rows)
-
--- one driver has another value
-pub values-set : (ds : List DriverState) (n : ℕ) (d : DriverState) → driver_values (set ds n d) ≡ set (driver_values ds) n d.value
-values-set ds n d = map-set (λ (w : DriverState). w.value) ds n d
 
 -- the value of a net, from a list of all values
 pub value-here : (values : List Logic) (sources : List (List Source)) (f : List Source → Logic) (n : ℕ) → values ≡ map f sources → n < length values

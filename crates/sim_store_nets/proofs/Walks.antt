@@ -47,10 +47,6 @@ walk_more {P} {Q} {set'} {from} {n} w next keeps here = record { at = λ k h. go
 pub walk_done : {P : ℕ → Type 0} {set' : List Bool} {from : ℕ} → Walked set' from P → NoneFrom (is_in set') from → (k : ℕ) → P k
 walk_done {P} {set'} {from} w none k = w.at k (λ e. elim (dec_lt k from) [ yes l ↦ l | no l ↦ absurd (not_both (is_in set' k) (none k (omega arith)) e) ])
 
--- what holds at each number that is no member still does
-pub walk_others : {P : ℕ → Type 0} {set' : List Bool} {from : ℕ} → Walked set' from P → (k : ℕ) → is_in set' k ≡ false → P k
-walk_others {P} {set'} w k e = w.at k (λ f. absurd (not_both (is_in set' k) e f))
-
 -- ---- along a list of the members
 
 -- above the members at the places before this one

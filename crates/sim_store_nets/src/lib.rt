@@ -13,7 +13,7 @@ mod wiring;
 
 pub use lists::{add, empty_lists, in_rows};
 pub use nets::{ByNumber, Seen, SeenBy, are_views, end_events, net_value, views_at};
-pub use sets::{insert_each, insert_range, replace_by};
+pub use sets::{insert_each, replace_by};
 pub use tallies::Tallies;
 pub use update_lists::UpdateLists;
 pub use values::Values;

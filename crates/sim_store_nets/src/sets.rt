@@ -1,6 +1,6 @@
 //! Insertion of several members into a set.
 
-ghost use Rattle.std.specs.Prelude.{ℕ, ◌≡◌, ◌<◌, ◌≤◌, ◌⊎◌, ◌||◌, ◌==◌, false, length};
+ghost use Rattle.std.specs.Prelude.{ℕ, ◌≡◌, ◌<◌, ◌||◌, ◌==◌, length};
 ghost use Rattle.sim_containers.specs.Numbers.{is_in};
 ghost use Rattle.sim_standard.specs.Orders.{is_among};
 
@@ -23,19 +23,6 @@ pub fn insert_each(set: &mut NumberSet, numbers: &[usize])
 {
     for number in numbers {
         insert_below(set, *number);
-    }
-}
-
-/// Inserts each number of a range.
-pub fn insert_range(set: &mut NumberSet, start: usize, end: usize)
-    requires order { start ≤ end }
-    requires within { end ≤ length set.old }
-    ensures sized { length set.new ≡ length set.old }
-    ensures members { (n : ℕ) → is_in set.new n ≡ false → (is_in set.old n ≡ false) × ((n < start) ⊎ (end ≤ n)) }
-    ensures others { (n : ℕ) → (n < start) ⊎ (end ≤ n) → is_in set.new n ≡ is_in set.old n }
-{
-    for number in start..end {
-        set.insert(number);
     }
 }
 

@@ -30,10 +30,6 @@ pub record AreSoFar (each : ℕ) (owned : List Owned) (shares : List (List Owned
   pub whole : joined shares ++ owned_lists dss vss ≡ owned
   pub full : (p : ℕ) → p < length shares → length (get_or shares p []) ≡ each
 
-pub none-so-far : (each : ℕ) (dss : List (List DriverState)) (vss : List (List Held)) → length dss ≡ length vss
-    → AreSoFar each (owned_lists dss vss) [] dss vss
-none-so-far each dss vss long = record { long = long; whole = refl; full = λ p lt. absurd (omega (arith, lt)) }
-
 -- the share at a place, of one share more
 pushed : {A : Type 0} (xss : List (List A)) (xs : List A) (each p : ℕ) → ((q : ℕ) → q < length xss → length (get_or xss q []) ≡ each) → p < length xss
     → length (get_or (xss ++ xs ∷ []) p []) ≡ each

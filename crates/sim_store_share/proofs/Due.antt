@@ -7,30 +7,25 @@ use Rattle.std.proofs.lemmas.List.{length-map, same_lists, get_or_default, get_o
 use Rattle.std.proofs.lemmas.Option.{same_Some}
 use Rattle.sim_logic.specs.declared.logic.Logic.{Logic}
 use Rattle.sim_standard.specs.Drivers.{Transaction, DriverState, taken, next_time}
-use Rattle.sim_standard.specs.State.{driver_at}
 use Rattle.sim_containers.specs.Numbers.{is_in}
-use Rattle.sim_containers.specs.Times as queue
 use Rattle.sim_containers.specs.Times.{time_of, is_at, earliest, those_at, clear, cleared, earlier}
+use Rattle.sim_containers.proofs.Queues.{at_cleared}
+use Rattle.sim_containers.proofs.Taking.{in_those_at}
 use Rattle.sim_store_share.specs.Shares.{time_at}
-use Rattle.sim_store_share.proofs.Times.{none_next, next_append, least_bound, times}
+use Rattle.sim_store_share.proofs.Times.{none_next, next_append, times}
 use Rattle.sim_containers.specs.Words.{IsNext}
-use Rattle.sim_store_share.proofs.Walks.{Walked, not_both, walk_more}
+use Rattle.sim_store_nets.proofs.Walks.{Walked, walk_more}
 
 -- ---- the times of all drivers
 
 abbrev pub first_times : List DriverState → List (Option ℕ)
 first_times drivers = map (λ (d : DriverState). next_time (d ∷ [])) drivers
 
-same_earlier : (a b : Option ℕ) → queue.earlier a b ≡ earlier a b
-same_earlier None b = refl
-same_earlier (Some m) None = refl
-same_earlier (Some m) (Some n) = refl
-
 -- the least of them is the time of the next cycle
 pub earliest-next : (ds : List DriverState) → earliest (first_times ds) ≡ next_time ds
 earliest-next [] = sym none_next
 earliest-next (d ∷ ds) =
-    ap (queue.earlier (next_time (d ∷ []))) (earliest-next ds) ∙ (same_earlier (next_time (d ∷ [])) (next_time ds) ∙ sym (next_append (d ∷ []) ds))
+    ap (earlier (next_time (d ∷ []))) (earliest-next ds) ∙ sym (next_append (d ∷ []) ds)
 
 pub time-of-first : (ds : List DriverState) (d : ℕ) → time_of (first_times ds) d ≡ time_at ds d
 unfolding next_time
@@ -42,12 +37,12 @@ pub first-count : (ds : List DriverState) → length (first_times ds) ≡ length
 first-count ds = length-map ds (λ (d : DriverState). next_time (d ∷ []))
 
 -- none is earlier than the least
-earlier-left : (a b : Option ℕ) (s t : ℕ) → queue.earlier a b ≡ Some s → a ≡ Some t → s ≤ t
+earlier-left : (a b : Option ℕ) (s t : ℕ) → earlier a b ≡ Some s → a ≡ Some t → s ≤ t
 earlier-left None b s t e f = absurd cc
 earlier-left (Some m) None s t e f = let g : m ≡ s = same_Some m s e in let h : m ≡ t = same_Some m t f in omega arith
 earlier-left (Some m) (Some n) s t e f = let g : min m n ≡ s = same_Some (min m n) s e in let h : m ≡ t = same_Some m t f in omega arith
 
-earlier-right : (a b : Option ℕ) (s t : ℕ) → queue.earlier a b ≡ Some s → ((u : ℕ) → b ≡ Some u → u ≤ t) → b ≢ None → s ≤ t
+earlier-right : (a b : Option ℕ) (s t : ℕ) → earlier a b ≡ Some s → ((u : ℕ) → b ≡ Some u → u ≤ t) → b ≢ None → s ≤ t
 earlier-right None None s t e f g = absurd cc
 earlier-right None (Some n) s t e f g = let h : n ≡ s = same_Some n s e in let k = f n refl in omega (arith, k)
 earlier-right (Some m) None s t e f g = absurd (g refl)
@@ -58,13 +53,13 @@ some-not-none [] d t e = absurd cc
 some-not-none (None ∷ ts) zero t e = absurd cc
 some-not-none (Some m ∷ ts) zero t e = λ f. go (earliest ts) f
   where
-    go : (o : Option ℕ) → queue.earlier (Some m) o ≡ None → ⊥
+    go : (o : Option ℕ) → earlier (Some m) o ≡ None → ⊥
     go None f = absurd cc
     go (Some n) f = absurd cc
 some-not-none (None ∷ ts) (suc d) t e = some-not-none ts d t e
 some-not-none (Some m ∷ ts) (suc d) t e = λ f. go (earliest ts) f
   where
-    go : (o : Option ℕ) → queue.earlier (Some m) o ≡ None → ⊥
+    go : (o : Option ℕ) → earlier (Some m) o ≡ None → ⊥
     go None f = absurd cc
     go (Some n) f = absurd cc
 
@@ -94,40 +89,7 @@ pub first-of : (w : DriverState) (x : Transaction) (rest : List Transaction) →
 unfolding next_time
 first-of w x rest e = ap (λ (xs : List Transaction). next_time (driver_state w.value xs ∷ [])) e
 
-pub at-least : (time m : ℕ) (o : Option ℕ) → o ≡ Some m → m ≡ time → is_at time o ≡ true
-at-least time m o e f = ap (is_at time) e ∙ grind (arith, nat_tests)
-
-pub not-due : (ds : List DriverState) (time d : ℕ) → next_time ds ≡ Some time → is_at time (time_at ds d) ≡ false → taken time (driver_at ds d) ≡ driver_at ds d
-not-due ds time d e no_time = keeps time (driver_at ds d).value (driver_at ds d).pending later
-  where
-    later : (x : Transaction) (rest : List Transaction) → (driver_at ds d).pending ≡ x ∷ rest → x.0 ≢ time
-    later x rest p = λ same.
-        let m = fold min x.0 (times rest ++ []) in
-        let is : time_at ds d ≡ Some m = first-of (driver_at ds d) x rest p in
-        let low : m ≤ x.0 = least_bound x.0 (times rest ++ []) in
-        let high : time ≤ m = least-of-times (first_times ds) d time m (earliest-next ds ∙ e) (time-of-first ds d ∙ is) in
-        let at : m ≡ time = omega (arith, same, low, high) in
-        not_both (is_at time (time_at ds d)) no_time (at-least time m (time_at ds d) is at)
-
 -- ---- after the due drivers took their transactions
-
-pub in-those-at : (time : ℕ) (ts : List (Option ℕ)) (d : ℕ) → is_in (those_at time ts) d ≡ is_at time (time_of ts d)
-in-those-at time [] d = refl
-in-those-at time (t ∷ ts) zero = refl
-in-those-at time (t ∷ ts) (suc d) = in-those-at time ts d
-
-time-cleared : (time : ℕ) (ts : List (Option ℕ)) (d : ℕ) → time_of (cleared time ts) d ≡ clear time (time_of ts d)
-time-cleared time [] d = refl
-time-cleared time (t ∷ ts) zero = refl
-time-cleared time (t ∷ ts) (suc d) = time-cleared time ts d
-
-clear-other : (time : ℕ) (o : Option ℕ) → is_at time o ≡ false → clear time o ≡ o
-clear-other time o e = ap (λ b. cond b None o) e
-
-pub driver-taken : (time : ℕ) (ds : List DriverState) (d : ℕ) → driver_at (map (taken time) ds) d ≡ taken time (driver_at ds d)
-driver-taken time [] d = refl
-driver-taken time (w ∷ ds) zero = refl
-driver-taken time (w ∷ ds) (suc d) = driver-taken time ds d
 
 clear-same : (time : ℕ) (o : Option ℕ) → is_at time o ≡ true → clear time o ≡ None
 clear-same time o e = ap (λ b. cond b None o) e
@@ -136,7 +98,7 @@ clear-same time o e = ap (λ b. cond b None o) e
 pub due-cleared : (times times' : List (Option ℕ)) (due : List Bool) (time d : ℕ) → due ≡ those_at time times → times' ≡ cleared time times
     → is_in due d ≡ true → time_of times' d ≡ None
 due-cleared times times' due time d ed ec e =
-    ap (λ w. time_of w d) ec ∙ (time-cleared time times d ∙ clear-same time (time_of times d) (sym (in-those-at time times d)
+    ap (λ w. time_of w d) ec ∙ (at_cleared time times d ∙ clear-same time (time_of times d) (sym (in_those_at time times d)
     ∙ (ap (λ w. is_in w d) (sym ed) ∙ e)))
 
 -- ---- bringing up to date

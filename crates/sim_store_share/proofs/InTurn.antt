@@ -92,9 +92,6 @@ executed-then r (n ∷ numbers) more old mid new first after = (first.0, execute
 
 -- ---- what is kept
 
-pub kept-same : (r : Reading) (numbers : List ℕ) (own : List Owned) → AreKept r numbers own own
-kept-same r numbers own = record { sized = refl; others = λ p other. refl; ready = λ p body h. h; values = refl }
-
 -- by some, and then by some of them
 kept-then : (r : Reading) (numbers more : List ℕ) (old mid new : List Owned) → ((p : ℕ) → IsOther r numbers p → IsOther r more p)
     → AreKept r numbers old mid → AreKept r more mid new → AreKept r numbers old new
@@ -140,9 +137,6 @@ executable-rest r numbers rest from old mid e each kept =
     executable-still r numbers (get_or (drop from numbers) k d) old mid (All-drop (IsExecutable r old) from numbers each k d lt) kept)
 
 -- ---- in turn
-
-pub turn-none : (r : Reading) (numbers : List ℕ) (own : List Owned) → IsTurn r numbers own own 0
-turn-none r numbers own = record { within = omega arith; done = refl }
 
 -- one more
 pub turn-next : (r : Reading) (numbers : List ℕ) (k : ℕ) (old mid new : List Owned) → k < length numbers → IsTurn r numbers old mid k

@@ -1,6 +1,6 @@
 -- One item of flat lists is written.
 use Rattle.std.proofs.Common.{ℕ, zero, suc, ◌+◌, ◌-◌, ◌<◌, ◌≤◌, ◌≡◌, ◌++◌, List, [], ◌∷◌, length, set, nat_lt, refl, ap, sym, ◌∙◌, arith}
-use Rattle.std.proofs.Common.{Bool, true, false, if◌then◌else◌, get_or, take, map, subst, length-append}
+use Rattle.std.proofs.Common.{Bool, true, false, if◌then◌else◌, get_or, take, subst, length-append}
 use Rattle.std.proofs.lemmas.Bool.{ltb-true, ltb-false}
 use Rattle.std.proofs.lemmas.List.{get_or-append_right, get_or_append_left, set-append_left, set-append_right, length-set}
 use Rattle.sim_containers.specs.RowArray.{joined, starts_from, IsFlat}
@@ -73,12 +73,3 @@ length-item {A} (xs ∷ xss) n x = go (nat_lt n (length xs)) (length-item xss (n
         → length (if b then set xs n x ∷ xss else xs ∷ with_item xss (n - length xs) x) ≡ suc (length xss)
     go true rest = refl
     go false rest = ap suc rest
-
-pub lengths-item : {A : Type 0} (xss : List (List A)) (n : ℕ) (x : A) → map length (with_item xss n x) ≡ map length xss
-lengths-item [] n x = refl
-lengths-item {A} (xs ∷ xss) n x = go (nat_lt n (length xs)) (lengths-item xss (n - length xs) x)
-  where
-    go : (b : Bool) → map length (with_item xss (n - length xs) x) ≡ map length xss
-        → map length (if b then set xs n x ∷ xss else xs ∷ with_item xss (n - length xs) x) ≡ length xs ∷ map length xss
-    go true rest = ap (λ w. w ∷ map length xss) (length-set xs n x)
-    go false rest = ap (λ w. length xs ∷ w) rest

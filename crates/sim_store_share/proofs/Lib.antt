@@ -1,5 +1,4 @@
 pub mod Items
-pub mod Walks
 pub mod Times
 pub mod Due
 pub mod Contents

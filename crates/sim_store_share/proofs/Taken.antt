@@ -15,6 +15,9 @@ use Rattle.sim_containers.specs.Times.{clear, cleared, earliest, is_at, those_at
 use Rattle.sim_containers.specs.Words.{IsNext, IsOnly}
 use Rattle.sim_containers.proofs.Flat.{joined-map}
 use Rattle.sim_containers.proofs.Least.{least_from_earliest, none_at_none}
+use Rattle.sim_containers.proofs.Queues.{at_cleared}
+use Rattle.sim_containers.proofs.Sets.{in_none}
+use Rattle.sim_containers.proofs.Taking.{in_those_at}
 use Rattle.sim_store_nets.specs.Lists.{Lists, IsNoted, net_from}
 use Rattle.sim_store_nets.specs.Nets.{value_at}
 use Rattle.sim_store_nets.proofs.Walks.{Walked, member_within, not_both, walk_start, walk_more}
@@ -83,16 +86,6 @@ past-taken ds time d le =
 
 -- ---- which drivers are due, as far as the times are known
 
-pub in-those-at : (time : ℕ) (ts : List (Option ℕ)) (d : ℕ) → is_in (those_at time ts) d ≡ is_at time (time_of ts d)
-in-those-at time [] d = refl
-in-those-at time (t ∷ ts) zero = refl
-in-those-at time (t ∷ ts) (suc d) = in-those-at time ts d
-
-time-cleared : (time : ℕ) (ts : List (Option ℕ)) (d : ℕ) → time_of (cleared time ts) d ≡ clear time (time_of ts d)
-time-cleared time [] d = refl
-time-cleared time (t ∷ ts) zero = refl
-time-cleared time (t ∷ ts) (suc d) = time-cleared time ts d
-
 clear-other : (time : ℕ) (o : Option ℕ) → is_at time o ≡ false → clear time o ≡ o
 clear-other time o e = ap (λ b. cond b None o) e
 
@@ -103,9 +96,9 @@ at-itself time = grind (arith, nat_tests)
 pub removed : (queue : List (Option ℕ)) (time : ℕ) (x : Option ℕ) (d : ℕ) → time_of queue d ≡ x → is_in (those_at time queue) d ≡ false
     → (x ≢ Some time) × (time_of (cleared time queue) d ≡ x)
 removed queue time x d e out =
-    let apart : is_at time (time_of queue d) ≡ false = sym (in-those-at time queue d) ∙ out in (
+    let apart : is_at time (time_of queue d) ≡ false = sym (in_those_at time queue d) ∙ out in (
       λ q. not_both (is_at time (time_of queue d)) apart (ap (is_at time) (e ∙ q) ∙ at-itself time),
-      time-cleared time queue d ∙ (clear-other time (time_of queue d) apart ∙ e),
+      at_cleared time queue d ∙ (clear-other time (time_of queue d) apart ∙ e),
     )
 
 -- all are known, and later
@@ -286,13 +279,8 @@ pub joined-taken : (time : ℕ) (old now : List (List DriverState)) → now ≡ 
 joined-taken time old now e = ap length (ap joined e ∙ joined-map (taken time) old) ∙ length-map (joined old) (taken time)
 
 -- a set without members
-pub none-there : (n d : ℕ) → is_in (replicate n false) d ≡ false
-none-there zero d = refl
-none-there (suc n) zero = refl
-none-there (suc n) (suc d) = none-there n d
-
 pub none-in : (stale : List Bool) → stale ≡ replicate (length stale) false → (d : ℕ) → is_in stale d ≡ false
-none-in stale e d = ap (λ (w : List Bool). is_in w d) e ∙ none-there (length stale) d
+none-in stale e d = ap (λ (w : List Bool). is_in w d) e ∙ in_none (length stale) d
 
 -- ---- the only driver with a transaction of a time
 

@@ -5,7 +5,7 @@ use Rattle.std.proofs.Common.{length, get_or, set, map, take, drop, replicate, r
 use Rattle.std.specs.List.{All}
 use Rattle.std.specs.Prelude.{option_map}
 use Rattle.std.proofs.lemmas.Bool.Decides.{nat_tests}
-use Rattle.std.proofs.lemmas.List.{get_or-set_same, get_or-set_other, length-set, length-map, get_or-map, get_or-replicate, length-replicate}
+use Rattle.std.proofs.lemmas.List.{get_or-set_same, get_or-set_other, length-set, length-map, get_or-map, length-replicate}
 use Rattle.std.proofs.lemmas.List.Elements.{All-map, All-weaker}
 use Rattle.std.proofs.lemmas.List.{drop-drop, ext_get_or, length-take-le}
 use Rattle.sim_standard.specs.Drivers.{Transaction, DriverState, next_time}
@@ -568,13 +568,6 @@ module _ {h : Simulation} {time delta : ℕ} {held : FlatState} {records : List 
   kept-result out None e = sym (own-owned out) ∙ sym e
   kept-result out (Some r) e = e
 
-  pub kept-drivers : IsDue h job.number → IsReady job.process.body job.time (result_of job) → (kept : Option Owned)
-      → MatchOption kept (result_of job ≡ job.owned) (λ r. r ≡ result_of job)
-      → MatchOption kept (Unit {0}) (λ r. length r.drivers ≡ length (owned_at held.owned job.number).drivers)
-  kept-drivers d f None e = tt
-  kept-drivers d f (Some r) e =
-      ap (λ (w : Owned). length w.drivers) e ∙ ((own-ready f).drivers ∙ sym (i.ready job.number d.number).drivers)
-
   -- and the current values of its drivers are as they were
   pub kept-values : IsDue h job.number → those_in h.deposited job.number ≡ false → (kept : Option Owned)
       → MatchOption kept (result_of job ≡ job.owned) (λ r. r ≡ result_of job)
@@ -613,9 +606,6 @@ module _ {h : Simulation} {time delta : ℕ} {held : FlatState} {records : List 
   }
 
 -- ---- the start
-
-those_in-replicate : (n p : ℕ) (b : Bool) → p < n → those_in (replicate n b) p ≡ b
-those_in-replicate n p b lt = get_or-replicate n p b false lt
 
 none-in-replicate : (n p : ℕ) → those_in (replicate n false) p ≡ false
 none-in-replicate zero p = refl

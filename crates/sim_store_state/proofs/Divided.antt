@@ -1,12 +1,10 @@
 -- Shares into which processes are divided.
-use Rattle.std.proofs.Common.{ℕ, ◌+◌, ◌<◌, ◌≤◌, ◌≡◌, List, [], length, get_or, ap, sym, ◌∙◌, subst, arith}
+use Rattle.std.proofs.Common.{ℕ, ◌+◌, ◌<◌, ◌≤◌, ◌≡◌, List, [], length, get_or, sym, ◌∙◌, subst, arith}
 use Rattle.std.proofs.Math.Decide.{dec_lt}
 use Rattle.std.proofs.lemmas.List.{get_or-map, length-map}
-use Rattle.sim_standard.specs.State.{Owned, all_drivers, driver_values}
-use Rattle.sim_containers.specs.RowArray.{joined}
-use Rattle.sim_store_nets.specs.Lists.{Lists, NetValues}
+use Rattle.sim_standard.specs.State.{Owned}
 use Rattle.sim_store_share.specs.Dividing.{AreDivided}
-use Rattle.sim_store_state.specs.FlatState.{AreShares, IsConsistent, counts}
+use Rattle.sim_store_state.specs.FlatState.{AreShares, counts}
 
 size-of : (xss : List (List Owned)) (p : ℕ) → p < length xss → get_or (counts xss) p 0 ≡ length (get_or xss p [])
 size-of xss p lt = get_or-map (λ (xs : List Owned). length xs) xss p [] 0 lt
@@ -30,14 +28,3 @@ shares-divided each owned xss wide d = record {
 
     first : 1 < length xss → get_or (counts xss) 0 0 ≡ each
     first more = size-of xss 0 (omega (arith, more)) ∙ d.full 0 (omega (arith, more))
-
--- the same processes in other shares
-pub divided-keeps : {values : NetValues} {shares : List (List Owned)} {lists : Lists} → IsConsistent values shares lists → (shares' : List (List Owned))
-    → AreShares (counts shares') → joined shares' ≡ joined shares → IsConsistent values shares' lists
-divided-keeps i shares' shared same = record {
-  shared = shared;
-  nets = i.nets;
-  valued = i.valued ∙ ap (λ (os : List Owned). driver_values (all_drivers os)) (sym same);
-  resolving = i.resolving;
-  touching = i.touching;
-}

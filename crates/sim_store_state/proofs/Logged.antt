@@ -127,17 +127,6 @@ records-more times more n time delta (entry.QuietTime ∷ es) le =
     rw (with-more times more n (omega (arith, le))) (ap (λ rs. begun (time_with times n) 0 (changes_before es) ∷ rs)
     (records-more times more (suc n) (time_with times n) 0 es (omega (arith, le))))
 
-time-more : (times more : List ℕ) (n time : ℕ) (es : List Entry) → n + count_times es ≤ length times
-    → time_after (times ++ more) n time es ≡ time_after times n time es
-time-more times more n time [] le = refl
-time-more times more n time (entry.Change value net ∷ es) le = time-more times more n time es le
-time-more times more n time (entry.Delta value net ∷ es) le = time-more times more n time es le
-time-more times more n time (entry.Time value net ∷ es) le =
-    rw (with-more times more n (omega (arith, le))) (time-more times more (suc n) (time_with times n) es (omega (arith, le)))
-time-more times more n time (entry.QuietDelta ∷ es) le = time-more times more n time es le
-time-more times more n time (entry.QuietTime ∷ es) le =
-    rw (with-more times more n (omega (arith, le))) (time-more times more (suc n) (time_with times n) es (omega (arith, le)))
-
 -- ---- the entries of one record
 
 changed-before : (cs : List (ℕ × Logic)) → changes_before (map changed cs) ≡ cs
@@ -330,21 +319,6 @@ module _ {times : List ℕ} {entries : List Entry} {records changes last : ℕ} 
           push rs e false time delta cs times refl
           (sym (i.time_is begun-there) ∙ (ap (λ w. (last_record w).time) e ∙ sym (next.time_is some)))
           (omega (arith, i.delta_is begun-there, ap (λ w. (last_record w).delta) e, next.delta_is some)) (omega arith)
-
--- a log without records
-pub log-empty : IsLog [] [] 0 0 0
-log-empty = record {
-  counted = refl;
-  begins = refl;
-  records_are = refl;
-  changes_are = refl;
-  few_records = omega arith;
-  few_changes = omega arith;
-  within = omega arith;
-  last_are = refl;
-  time_is = λ lt. absurd (omega (arith, lt));
-  delta_is = λ lt. absurd (omega (arith, lt));
-}
 
 -- a cycle has no more changes than there are nets
 pub changes-few : (nets : List NetView) → length (changes_from 0 nets) ≤ length nets

@@ -1,6 +1,6 @@
 -- The processes that resume are those sensitive to a net with an event.
 use Rattle.std.proofs.Common.{ℕ, zero, suc, ◌+◌, ◌<◌, ◌≡◌, ◌==◌, ◌++◌, ◌||◌, ◌&&◌, eqb, Bool, true, List, [], ◌∷◌, length, get_or}
-use Rattle.std.proofs.Common.{take, add-one, refl, ap, sym, ◌∙◌, arith, inl, inr}
+use Rattle.std.proofs.Common.{take, refl, ap, sym, ◌∙◌, arith, inl, inr}
 use Rattle.std.proofs.lemmas.Bool.Decides.{nat_tests}
 use Rattle.sim_logic.specs.declared.logic.Logic.{Logic}
 use Rattle.sim_flat_design.specs.Processes.{Process}
@@ -14,7 +14,7 @@ use Rattle.sim_store_state.specs.declared.log.Entry.{Entry}
 use Rattle.sim_store_state.specs.Log.{changes_of}
 use Rattle.sim_store_state.proofs.Logged.{changes-more}
 use Rattle.sim_store_nets.proofs.Booleans.{or_true, or_left, or_right, and_left, and_right, both_true, same_bools, or_false, or-assoc, or-turn}
-use Rattle.sim_store_nets.proofs.Booleans.{and-or, among-more, at_same, at_other, eqb-suc}
+use Rattle.sim_store_nets.proofs.Booleans.{and-or, among-more}
 
 -- ---- processes sensitive to a net with an event
 
@@ -120,32 +120,6 @@ sensitivity-more sensitivity i n net is_it was now new lt is e f =
     let front = is_among (take i sensitivity) n in
     f ∙ (ap (λ b. b || ((net == n) && is_it)) e ∙ (or-assoc was (front && is_it) ((net == n) && is_it)
     ∙ ap (λ b. was || b) (and-or front (net == n) is_it ∙ ap (λ b. b && is_it) (ap (λ m. front || (m == n)) is ∙ sym (among-more sensitivity i n lt)))))
-
--- one more process
-process-step : (processes : List Process) (i p n : ℕ) (q : Process) → i < length processes → q ≡ get_or processes i q
-    → is_among (process_at (take (suc i) processes) p).sensitivity n ≡ (is_among (process_at (take i processes) p).sensitivity n ||
-    (is_among q.sensitivity n && (i == p)))
-process-step [] i p n q lt is = absurd (omega arith)
-process-step (x ∷ processes) zero zero n q lt is = ap (λ (y : Process). is_among y.sensitivity n) (sym is) ∙ sym (at_same (is_among q.sensitivity n) 0 0 refl)
-process-step (x ∷ processes) zero (suc p) n q lt is = sym (at_other (is_among q.sensitivity n) 0 (suc p) (omega arith))
-process-step (x ∷ processes) (suc i) zero n q lt is =
-    sym (ap (λ b. is_among x.sensitivity n || b) (at_other (is_among q.sensitivity n) (suc i) 0 (omega arith)) ∙ or_false (is_among x.sensitivity n))
-process-step (x ∷ processes) (suc i) (suc p) n q lt is =
-    process-step processes i p n q (omega arith) is ∙ ap (λ b. is_among (process_at (take i processes) p).sensitivity n || (is_among q.sensitivity n && b))
-    (sym (eqb-suc i p))
-
-process-more : (processes : List Process) (i p n : ℕ) (q : Process) → i < length processes → q ≡ get_or processes i q
-    → is_among (process_at (take (i + 1) processes) p).sensitivity n ≡ (is_among (process_at (take i processes) p).sensitivity n ||
-    (is_among q.sensitivity n && (i == p)))
-process-more processes i p n q lt is = rw add-one (process-step processes i p n q lt is)
-
-pub processes-more : (processes : List Process) (i p n : ℕ) (q : Process) (was now new : Bool) → i < length processes → q ≡ get_or processes i q
-    → now ≡ (was || is_among (process_at (take i processes) p).sensitivity n) → new ≡ (now || (is_among q.sensitivity n && (i == p)))
-    → new ≡ (was || is_among (process_at (take (i + 1) processes) p).sensitivity n)
-processes-more processes i p n q was now new lt is e f =
-    let front = is_among (process_at (take i processes) p).sensitivity n in
-    f ∙ (ap (λ b. b || (is_among q.sensitivity n && (i == p))) e ∙ (or-assoc was front (is_among q.sensitivity n && (i == p))
-    ∙ ap (λ b. was || b) (sym (process-more processes i p n q lt is))))
 
 -- those sensitive to the net of a single change
 pub resumed-by-one : (sensitive : List (List ℕ)) (changes : List (ℕ × Logic)) (p net : ℕ) (value : Logic) → changes ≡ (net, value) ∷ []

@@ -5,7 +5,7 @@ use Rattle.sim_containers.specs.Times.{time_of}
 use Rattle.sim_store_share.specs.PendingTimes.{Pending}
 use Rattle.sim_store_share.specs.Shares.{time_at}
 use Rattle.sim_store_share.proofs.Due.{times-more}
-use Rattle.sim_store_share.proofs.Walks.{Walked, walk_start}
+use Rattle.sim_store_nets.proofs.Walks.{Walked, walk_start}
 use Rattle.sim_store_share.proofs.share.put_stale.Goals as goal
 
 pub loop-number-init : goal.loop-number-init

@@ -2,7 +2,7 @@ use Rattle.std.proofs.Common.{ℕ, ◌≡◌, ◌≤◌, ◌-◌, length}
 use Rattle.sim_containers.specs.RowArray.{joined}
 use Rattle.sim_containers.specs.Times.{time_of}
 use Rattle.sim_store_share.specs.Shares.{time_at}
-use Rattle.sim_store_share.proofs.Walks.{Walked}
+use Rattle.sim_store_nets.proofs.Walks.{Walked}
 use Rattle.sim_store_share.proofs.share.put_stale.Given as goal
 
 abbrev pub invariant-loop-number : goal.invariant-loop-number

@@ -3,9 +3,10 @@ use Rattle.std.proofs.lemmas.List.{length-map, length-replicate}
 use Rattle.sim_containers.specs.Numbers.{is_in}
 use Rattle.sim_containers.specs.Times.{clear, is_at, time_of}
 use Rattle.sim_store_share.specs.PendingTimes.{Pending, AreTimes}
+use Rattle.sim_containers.proofs.Sets.{in_none}
 use Rattle.sim_store_nets.proofs.Walks.{member_within}
 use Rattle.sim_store_share.proofs.Due.{due-cleared}
-use Rattle.sim_store_share.proofs.Taken.{later-apart, none-in, none-left, none-there, removed}
+use Rattle.sim_store_share.proofs.Taken.{later-apart, none-in, none-left, removed}
 use Rattle.sim_store_share.proofs.pending_times.PendingTimes.take.Goals as goal
 
 pub returns-then-eq : goal.returns-then-eq
@@ -32,7 +33,7 @@ returns-then-is_later c = record {
             (c.is_later.ensures c.if-is_later.true),
         known d,
       );
-  none = λ d here _. none-left c.clear.new.self d here (ap (λ (w : List Bool). is_in w d) c.clear.ensures ∙ none-there (length c.args.taken.now) d);
+  none = λ d here _. none-left c.clear.new.self d here (ap (λ (w : List Bool). is_in w d) c.clear.ensures ∙ in_none (length c.args.taken.now) d);
 }
 
 pub returns : goal.returns
