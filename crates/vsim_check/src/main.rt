@@ -134,7 +134,7 @@ fn map(rt: &HostRuntime, options: &Options<'_>) -> Result<SourceMap, Failure> {
     }
 }
 
-/// What the cells of the map's module are connected with.
+/// Reads the connections of the cells of the map's module.
 fn read_pins(
     rt: &HostRuntime,
     options: &Options<'_>,
