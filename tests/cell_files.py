@@ -51,10 +51,11 @@ def are_read_or_refused(programs, given, tokens, signs, words_of, seconds, count
     demand(count < 200 or texts > 2, f"{texts} texts")
 
 
-def main(documentation, tests_of):
-    """Makes the tests that the command line asks for."""
-    if len(sys.argv) not in (3, 4):
+def main(documentation, tests_of, count=2):
+    """Makes the tests that the command line asks for, which begins with this number of programs."""
+    programs, more = sys.argv[1:count + 1], sys.argv[count + 1:]
+    if len(programs) != count or len(more) > 1:
         sys.exit(documentation)
-    programs, damaged = sys.argv[1:3], int(sys.argv[3]) if len(sys.argv) == 4 else DAMAGED
+    damaged = int(more[0]) if more else DAMAGED
     with tempfile.TemporaryDirectory() as folder:
         sys.exit(tally(tests_of([os.path.abspath(it) for it in programs], folder, damaged)) != 0)

@@ -1,7 +1,7 @@
 #!/usr/bin/env python3
 """Runs netlists of cells with the delays of files in the standard delay format (SDF).
 
-    sdf.py VSIM VSIM_NETLIST [DAMAGED]
+    sdf.py VSIM VSIM_NETLIST VSIM_WAVES VSIM_COMPARE [DAMAGED]
 
 Netlists of one or two cells, each with a rule of the format or of IEEE 1364's module paths, whose listings were worked out by hand from these
 rules; files with a fault, each refused by a sentence; what has no effect, told in one line; and a file with one token changed or removed,
@@ -9,8 +9,9 @@ DAMAGED times (1,000 if it is not given), which end in a text that VSIM reads, o
 
 Then each cell of netlists/cells.lib, and of osu018, osu035 and osu050 where Debian's packages qflow-tech-osu018 and so on are installed, with
 delays at random and inputs that change at random, several at once and sooner than cells follow: alone, and in netlists at random. Every change
-of every output is to be that of sdf_reference.py, which knows the rules and nothing of VSIM_NETLIST. And where Yosys, OpenSTA and Icarus are
-installed, the commands of docs/SYNTHESIS.md from Verilog to a listing with delays, whose values before each edge are to be those of the source.
+of every output is to be that of sdf_reference.py, which knows the rules and nothing of VSIM_NETLIST. docs/glitch.svg is drawn anew by the
+commands of docs/SYNTHESIS.md, and without delays nothing glitches. And where Yosys, OpenSTA and Icarus are installed, the commands there from
+Verilog to waves with delays, whose values before each edge are to be those of the source.
 
 What differs is told, and the last line is `N passed, M failed`.
 """
@@ -32,6 +33,8 @@ from sdf_reference import Simulation, TimedCell  # noqa: E402
 SECONDS = 1
 # the most bytes of a cell of two inputs, alone and where many have the same delays
 BYTES, SHARED = 250, 60
+# the programs of the command line
+NAMES = ["vsim", "vsim_netlist", "vsim_waves", "vsim_compare"]
 # how often the inputs of cells change at random, and how many cells a netlist at random has
 CHANGES, CELL_COUNT = 1200, 60
 
@@ -421,29 +424,50 @@ def in_femtoseconds(paths):
 
 
 # ------------------------------------------------------------------------------------------- from Verilog to a listing
-def commands_of(programs):
-    """Returns the commands of docs/SYNTHESIS.md that need no other program of this repository, and the lines of its uart.tcl."""
-    with open(f"{TOP}/docs/SYNTHESIS.md", encoding="utf-8") as file:
-        _, _, part = file.read().partition("## Delays of an SDF file\n")
-    lines, _, rest = part.partition("`uart.tcl` has the lines")
+def commands_of(programs, begin, end):
+    """Returns the commands of a part of docs/SYNTHESIS.md, with these programs, and what is written between its end and the next empty line."""
+    _, _, part = read(f"{TOP}/docs/SYNTHESIS.md").decode().partition(begin)
+    lines, _, rest = part.partition(end)
     commands = re.findall(r"^    (.*)$", lines, re.M)
-    script = re.findall(r"`((?:set |read_|link_|write_)[^`]*)`", rest.partition("\n\n")[0].replace("\n", " "))
-    own = {"./vsim_netlist ": f"{programs[1]} ", "./vsim ": f"{programs[0]} "}
-    for name, program in own.items():
-        commands = [program + it[len(name):] if it.startswith(name) else it for it in commands]
-    return [it for it in commands if not it.startswith("./vsim_")], script
+    for name, program in zip(NAMES, programs):
+        commands = [it.replace(f"./{name} ", f"{program} ") for it in commands]
+    return commands, rest.partition("\n\n")[0]
+
+
+def carry_out(folder, commands):
+    """Carries out commands in a folder."""
+    for command in commands:
+        ran = subprocess.run(command, shell=True, cwd=folder, stdin=subprocess.DEVNULL, stdout=subprocess.PIPE, stderr=subprocess.STDOUT)
+        demand(ran.returncode == 0, f"{command}: {ran.stdout.decode(errors='replace')[-300:]}")
+
+
+def rises_of(folder):
+    """Returns how often `full` rises in the listing of the glitch."""
+    return len(re.findall(rb"^\d+ \d+ full 1$", read(f"{folder}/glitch.listing"), re.M))
+
+
+def is_glitch_drawn(programs, folder):
+    """Demands that the commands of docs/SYNTHESIS.md draw its picture of a glitch, and that there is none without delays."""
+    commands, _ = commands_of(programs, "## A glitch\n", "![")
+    demand(len(commands) == 3, f"{len(commands)} commands")
+    for it in ("glitch.json", "glitch.lib", "glitch.sdf", "glitch.lines"):
+        shutil.copy(f"{FOLDER}/{it}", folder)
+    carry_out(folder, commands)
+    demand(read(f"{folder}/glitch.svg") == read(f"{TOP}/docs/glitch.svg"), "docs/glitch.svg is another picture")
+    with_delays = rises_of(folder)
+    carry_out(folder, [it.replace("--sdf glitch.sdf ", "") for it in commands[:2]])
+    demand((with_delays, rises_of(folder)) == (4, 2), f"full rises {with_delays} times, and {rises_of(folder)} without delays")
 
 
 def is_chain_run(programs, folder):
     """Demands that gates with delays of a timing analyser are like their source before each edge of the clock, where that is known."""
-    commands, script = commands_of(programs)
-    demand(len(commands) == 5 and len(script) == 5, f"{len(commands)} commands, {len(script)} lines")
+    commands, told = commands_of(programs, "## Delays of an SDF file\n", "`uart.tcl` has the lines")
+    script = re.findall(r"`((?:set |read_|link_|write_)[^`]*)`", told.replace("\n", " "))
+    demand(len(commands) == 7 and len(script) == 5, f"{len(commands)} commands, {len(script)} lines")
     for name, path in {"cells.lib": OTHERS["qflow-tech-osu018"], **{it: f"{FOLDER}/designs/{it}" for it in ("uart.v", "uart_tb.v")}}.items():
         shutil.copy(path, f"{folder}/{name}")
     put(folder, "uart.tcl", "\n".join(script) + "\n")
-    for command in commands:
-        ran = subprocess.run(command, shell=True, cwd=folder, stdin=subprocess.DEVNULL, stdout=subprocess.PIPE, stderr=subprocess.STDOUT)
-        demand(ran.returncode == 0, f"{command}: {ran.stdout.decode(errors='replace')[-300:]}")
+    carry_out(folder, commands)
     source, known = Waves(read(f"{folder}/uart.vcd"), "tb.dut"), known_to(f"{folder}/uart.map")
     edges = [time for time, code, level in source.changes if code == source.variables["clk"][0] and level == "1"]
     lines = [line.split() for line in read(f"{folder}/uart.listing").decode().splitlines()]
@@ -477,6 +501,7 @@ def tests_of(programs, folder, damaged):
         print("from Verilog to a listing: skipped: apt-get install iverilog yosys opensta qflow-tech-osu018")
     else:
         yield "from Verilog to a listing", lambda: is_chain_run(programs, folder)
+    yield "docs/glitch.svg", lambda: is_glitch_drawn(programs, folder)
     yield "without effect", lambda: is_noted(programs, folder)
     yield "length of the text", lambda: are_short(programs, folder)
     yield "length of the file", lambda: is_linear(programs, folder)
@@ -484,4 +509,4 @@ def tests_of(programs, folder, damaged):
 
 
 if __name__ == "__main__":
-    main(__doc__, tests_of)
+    main(__doc__, tests_of, len(NAMES))

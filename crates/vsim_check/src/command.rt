@@ -67,14 +67,31 @@ fn version<'a>(alloc: Global) -> Arg<'a> {
         .help("Print version")
 }
 
-/// Adds the options that name files.
-fn with_files<'a>(alloc: Global, command: Command<'a>) -> Result<Command<'a>, AllocError> {
-    let help = "The file with the checks";
-    let command = command.arg(valued(alloc, "sdf", "FILE", help))?;
-    let help = "The netlist, as write_json of Yosys wrote it";
-    let command = command.arg(valued(alloc, "netlist", "FILE", help))?;
-    let help = "The map from vsim_netlist";
-    command.arg(valued(alloc, "map", "FILE", help))
+/// The options with a value, in the order of the help: the name of each, that of its value, and its
+/// help.
+static VALUED: [(&str, &str, &str); 5] = [
+    ("sdf", "FILE", "The file with the checks"),
+    (
+        "netlist",
+        "FILE",
+        "The netlist, as write_json of Yosys wrote it",
+    ),
+    ("map", "FILE", "The map from vsim_netlist"),
+    (
+        "corner",
+        "CORNER",
+        "Which limits: min, typ (the default) or max",
+    ),
+    ("from", "TIME", "Check from this time on, as 100ns"),
+];
+
+/// Adds all options with a value.
+fn with_valued<'a>(alloc: Global, command: Command<'a>) -> Result<Command<'a>, AllocError> {
+    let mut command = command;
+    for (name, value, help) in &VALUED {
+        command = command.arg(valued(alloc, *name, *value, *help))?;
+    }
+    Ok(command)
 }
 
 /// The command line of the program, without its name.
@@ -83,16 +100,7 @@ pub(crate) fn command_line<'a>(alloc: Global) -> Result<Command<'a>, AllocError>
         .about(ABOUT)
         .after_help(MORE)
         .no_binary_name(true);
-    let command = with_files(alloc, command)?;
-    let help = "Which limits: min, typ (the default) or max";
-    let command = command.arg(valued(alloc, "corner", "CORNER", help))?;
-    with_rest(alloc, command)
-}
-
-/// Adds the options about when to check, and of the version.
-fn with_rest<'a>(alloc: Global, command: Command<'a>) -> Result<Command<'a>, AllocError> {
-    let help = "Check from this time on, as 100ns";
-    let command = command.arg(valued(alloc, "from", "TIME", help))?;
+    let command = with_valued(alloc, command)?;
     command.arg(version(alloc))
 }
 

@@ -141,8 +141,8 @@ impl<R: Read> Run<R> {
         Ok(())
     }
 
-    /// Completes the time of the line that was read last. What signals have at the end of time 0
-    /// are their first values, which are no events.
+    /// Completes the time of the line that was read last. Values at the end of time 0 are the first
+    /// values of signals, and no events.
     fn complete<W: Write>(&mut self, report: &mut Report<'_, W>) -> Result<(), Trouble> {
         if self.at.time == 0 {
             self.demand_first()?;

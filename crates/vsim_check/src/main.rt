@@ -43,7 +43,7 @@ const VIOLATED: u8 = 1;
 /// The files that say what is checked.
 #[derive(Drop)]
 struct Inputs {
-    delays: Delays,
+    delays: Box<Delays>,
     checks: CheckList,
     connections: Connections,
 }
@@ -99,7 +99,7 @@ fn path<'a>(rt: &HostRuntime, option: &str, path: &'a str) -> Result<&'a str, Fa
 }
 
 /// The delays and checks of the SDF file.
-fn checks(rt: &HostRuntime, options: &Options<'_>) -> Result<(Delays, CheckList), Failure> {
+fn checks(rt: &HostRuntime, options: &Options<'_>) -> Result<(Box<Delays>, CheckList), Failure> {
     let corner = corner(rt, options.corner)?;
     let text = read_bytes(rt, path(rt, "--sdf", options.sdf)?)?;
     match read_check_file(rt.alloc(), text.as_slice(), corner) {
@@ -134,7 +134,7 @@ fn map(rt: &HostRuntime, options: &Options<'_>) -> Result<SourceMap, Failure> {
     }
 }
 
-/// What the cells of the map's module are connected with.
+/// Reads the connections of the cells of the map's module.
 fn read_pins(
     rt: &HostRuntime,
     options: &Options<'_>,
@@ -166,7 +166,7 @@ fn read_inputs(
 
 /// The checks of signals.
 fn planned(rt: &HostRuntime, inputs: &Inputs, map: &SourceMap) -> Result<Plan, Failure> {
-    let (delays, checks) = (&inputs.delays, &inputs.checks);
+    let (delays, checks) = (inputs.delays.as_ref(), &inputs.checks);
     match make_plan(rt.alloc(), delays, checks, &inputs.connections, map) {
         Ok(plan) if plan.labels.is_empty() => {
             Err(refused(rt, &["the SDF file: it has nothing to check"]))
@@ -178,7 +178,7 @@ fn planned(rt: &HostRuntime, inputs: &Inputs, map: &SourceMap) -> Result<Plan, F
 
 /// Tells what is not checked, if standard error can be written.
 fn warn(rt: &HostRuntime, inputs: &Inputs) -> Result<(), Failure> {
-    let text = note(rt.alloc(), &inputs.delays, &inputs.checks)?;
+    let text = note(rt.alloc(), inputs.delays.as_ref(), &inputs.checks)?;
     let _told = rt.eprint(text.as_str());
     Ok(())
 }
@@ -230,7 +230,7 @@ fn check<R: Read, W: Write>(
 fn check_listing(rt: &HostRuntime, inputs: &Inputs, plan: Plan, from: u64) -> Result<u8, Failure> {
     let (watched, labels) = plan.into_parts();
     let said = Said {
-        delays: &inputs.delays,
+        delays: inputs.delays.as_ref(),
         checks: &inputs.checks,
         connections: &inputs.connections,
         labels: labels.as_slice(),

@@ -1,4 +1,4 @@
-//! What is told of violations.
+//! The lines that tell of violations.
 
 use std::alloc::{AllocError, Global};
 use std::io::{self, Write};

@@ -6,10 +6,18 @@ use vsim_netlist_cells::Connections;
 use vsim_netlist_design::push;
 
 /// The indices of cells by their kinds.
-#[derive(Drop)]
 pub(crate) struct Kinds {
     places: HashMap<String, usize>,
     cells: Vec<Vec<usize>>,
+}
+
+/// Written by hand so that code which drops it needs no proof about its contents.
+impl Drop for Kinds {
+    fn drop(self) {
+        let Kinds { places, cells } = self;
+        drop(places);
+        drop(cells);
+    }
 }
 
 impl Kinds {

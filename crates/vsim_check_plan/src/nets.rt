@@ -1,4 +1,4 @@
-//! What a map says of the nets of a netlist.
+//! The bits by which a map names the nets of a netlist.
 
 use std::alloc::{AllocError, Global};
 use std::collections::HashMap;
@@ -6,7 +6,7 @@ use vsim_netlist_cells::Connections;
 use vsim_netlist_design::{Bit, Variable};
 use vsim_waves_listing::{MapBit, SourceMap};
 
-/// What a map says of each net, if it has a name of it.
+/// For each net its bit in a map, if the map names the net.
 pub(crate) type Bits = Vec<Option<MapBit>>;
 
 /// Adds the index of a variable of a map.
@@ -55,7 +55,7 @@ fn mapped<'a>(
     }
 }
 
-/// What a map says of each net.
+/// The bit of each net in a map.
 pub(crate) fn bits_of(
     alloc: Global,
     connections: &Connections,

@@ -1,4 +1,4 @@
-//! Checks of signals, and what is said of their violations.
+//! Checks of signals, and the lines of their violations.
 
 use std::alloc::Global;
 use vsim_check_rules::{Checker, Demand, Violation};
@@ -8,7 +8,7 @@ use vsim_netlist_design::{
 };
 use vsim_waves_listing::Names;
 
-/// What a check of signals is of: a cell, by its index, and a check of the file, by its index.
+/// The cell and the check of the file that a check of signals is for, both by their indices.
 #[derive(Clone, Copy)]
 pub struct Label {
     pub cell: usize,
@@ -90,7 +90,7 @@ impl Plan {
     }
 }
 
-/// From what violations are told.
+/// The netlist and the checks that the line of a violation names.
 #[derive(Clone, Copy)]
 pub struct Said<'a> {
     pub delays: &'a Delays,

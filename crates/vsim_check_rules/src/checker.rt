@@ -48,13 +48,29 @@ struct Rules {
 /// At each time, `take` is called for each signal that has a line in the listing, and then
 /// `begin`, `check` or `settle`, which also is at each time of `next`. So a signal that changes and
 /// changes back at one time has no event.
-#[derive(Drop)]
 pub struct Checker {
     alloc: Global,
     signals: Signals,
     wires: Wires,
     uses: Vec<Uses>,
     rules: Rules,
+}
+
+/// Written by hand so that code which drops it needs no proof about its contents.
+impl Drop for Checker {
+    fn drop(self) {
+        let Checker {
+            alloc: _,
+            signals,
+            wires,
+            uses,
+            rules,
+        } = self;
+        drop(signals);
+        drop(wires);
+        drop(uses);
+        drop(rules);
+    }
 }
 
 impl Rules {

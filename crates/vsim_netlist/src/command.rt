@@ -101,21 +101,69 @@ impl<'a> Options<'a> {
     }
 }
 
-/// Adds an option with a value.
-fn with_valued<'a>(
-    alloc: Global,
-    command: Command<'a>,
-    name: &'a str,
-    value: &'a str,
-    help: &'a str,
-) -> Result<Command<'a>, AllocError> {
-    command.arg(
-        Arg::new(alloc, name)
-            .long(name)
-            .action(ArgAction::Set)
-            .value_name(value)
-            .help(help),
-    )
+/// The options with a value, in the order of the help: the name of each, that of its value, and its
+/// help.
+static VALUED: [(&str, &str, &str); 10] = [
+    (
+        "top",
+        "NAME",
+        "The module, if not the one that is marked as the top",
+    ),
+    (
+        LIBERTY,
+        "FILE",
+        "A library of cells; several are one library",
+    ),
+    ("sdf", "FILE", "The delays of the libraries' cells"),
+    (
+        "corner",
+        "CORNER",
+        "Which delays: min, typ (the default) or max",
+    ),
+    (
+        "init",
+        "LEVEL",
+        "With what registers and latches begin: 0 or 1",
+    ),
+    ("stimuli", "FILE", "How the inputs change: a VCD, or lines"),
+    (
+        "scope",
+        "SCOPE",
+        "The scope of the VCD, else the deepest that fits",
+    ),
+    ("delays", "LIST", "As nand=40ps,dff=200ps/180ps,others=60ps"),
+    (
+        "hold",
+        "TIME",
+        "How much later inputs that are no clocks change",
+    ),
+    ("map", "FILE", "Write the map for vsim_waves --map"),
+];
+
+/// The option that may be given several times.
+const LIBERTY: &str = "liberty";
+
+/// An option with a value.
+fn valued<'a>(alloc: Global, name: &'a str, value: &'a str, help: &'a str) -> Arg<'a> {
+    let action = if name == LIBERTY {
+        ArgAction::Append
+    } else {
+        ArgAction::Set
+    };
+    Arg::new(alloc, name)
+        .long(name)
+        .action(action)
+        .value_name(value)
+        .help(help)
+}
+
+/// Adds all options with a value.
+fn with_valued<'a>(alloc: Global, command: Command<'a>) -> Result<Command<'a>, AllocError> {
+    let mut command = command;
+    for (name, value, help) in &VALUED {
+        command = command.arg(valued(alloc, *name, *value, *help))?;
+    }
+    Ok(command)
 }
 
 /// The option for the name of the entity.
@@ -143,49 +191,6 @@ fn version<'a>(alloc: Global) -> Arg<'a> {
         .help("Print version")
 }
 
-/// Adds the option of the Liberty files, which may be given several times.
-fn with_liberty<'a>(alloc: Global, command: Command<'a>) -> Result<Command<'a>, AllocError> {
-    command.arg(
-        Arg::new(alloc, "liberty")
-            .long("liberty")
-            .action(ArgAction::Append)
-            .value_name("FILE")
-            .help("A library of cells; several are one library"),
-    )
-}
-
-/// Adds the options about the cells of libraries.
-fn with_libraries<'a>(alloc: Global, command: Command<'a>) -> Result<Command<'a>, AllocError> {
-    let command = with_liberty(alloc, command)?;
-    let help = "The delays of the libraries' cells";
-    let command = with_valued(alloc, command, "sdf", "FILE", help)?;
-    let help = "Which delays: min, typ (the default) or max";
-    let command = with_valued(alloc, command, "corner", "CORNER", help)?;
-    let help = "With what registers and latches begin: 0 or 1";
-    with_valued(alloc, command, "init", "LEVEL", help)
-}
-
-/// Adds the options about what to simulate.
-fn with_design<'a>(alloc: Global, command: Command<'a>) -> Result<Command<'a>, AllocError> {
-    let help = "The module, if not the one that is marked as the top";
-    let command = with_valued(alloc, command, "top", "NAME", help)?;
-    let command = with_libraries(alloc, command)?;
-    let help = "How the inputs change: a VCD, or lines";
-    let command = with_valued(alloc, command, "stimuli", "FILE", help)?;
-    let help = "The scope of the VCD, else the deepest that fits";
-    with_valued(alloc, command, "scope", "SCOPE", help)
-}
-
-/// Adds the options about times and other files.
-fn with_times<'a>(alloc: Global, command: Command<'a>) -> Result<Command<'a>, AllocError> {
-    let help = "As nand=40ps,dff=200ps/180ps,others=60ps";
-    let command = with_valued(alloc, command, "delays", "LIST", help)?;
-    let help = "How much later inputs that are no clocks change";
-    let command = with_valued(alloc, command, "hold", "TIME", help)?;
-    let help = "Write the map for vsim_waves --map";
-    with_valued(alloc, command, "map", "FILE", help)
-}
-
 /// Adds the flags.
 fn with_flags<'a>(alloc: Global, command: Command<'a>) -> Result<Command<'a>, AllocError> {
     let command = command.arg(large(alloc))?.arg(entity(alloc))?;
@@ -198,8 +203,7 @@ pub(crate) fn command_line<'a>(alloc: Global) -> Result<Command<'a>, AllocError>
         .about(ABOUT)
         .after_help(MORE)
         .no_binary_name(true);
-    let command = with_design(alloc, command)?;
-    let command = with_times(alloc, command)?;
+    let command = with_valued(alloc, command)?;
     with_flags(alloc, command)
 }
 

@@ -153,7 +153,7 @@ fn corner(rt: &HostRuntime, word: &str) -> Result<Corner, Failure> {
 }
 
 /// The delays of a file.
-fn read_delays(rt: &HostRuntime, path: &str, corner: Corner) -> Result<Delays, Failure> {
+fn read_delays(rt: &HostRuntime, path: &str, corner: Corner) -> Result<Box<Delays>, Failure> {
     let text = read_bytes(rt, path)?;
     match read_delay_file(rt.alloc(), text.as_slice(), corner) {
         Ok(delays) => Ok(delays),
@@ -162,7 +162,7 @@ fn read_delays(rt: &HostRuntime, path: &str, corner: Corner) -> Result<Delays, F
 }
 
 /// The delays of the file that is named, if one is.
-fn delays(rt: &HostRuntime, options: &Options<'_>) -> Result<Option<Delays>, Failure> {
+fn delays(rt: &HostRuntime, options: &Options<'_>) -> Result<Option<Box<Delays>>, Failure> {
     let corner = corner(rt, options.corner)?;
     match options.sdf() {
         Some(path) => Ok(Some(read_delays(rt, path, corner)?)),
@@ -179,14 +179,11 @@ fn converted(
 ) -> Result<Written, Failure> {
     let library = library(rt, options)?;
     let delays = delays(rt, options)?;
-    match convert(
-        rt.alloc(),
-        options,
-        &library,
-        delays.as_ref(),
-        netlist,
-        stimuli,
-    ) {
+    let delays = match &delays {
+        Some(delays) => Some(delays.as_ref()),
+        None => None,
+    };
+    match convert(rt.alloc(), options, &library, delays, netlist, stimuli) {
         Ok(written) => Ok(written),
         Err(fault) => Err(Failure::Conversion(fault)),
     }

@@ -54,7 +54,6 @@ pub(crate) struct Request<'a> {
 
 /// A text, the name of its entity, its map, notes about what nothing drives and about delays without
 /// effect, and the number of clocks that gates or registers drive.
-#[derive(Drop)]
 pub(crate) struct Written {
     pub(crate) text: String,
     pub(crate) entity: String,
@@ -62,6 +61,25 @@ pub(crate) struct Written {
     pub(crate) undriven: String,
     pub(crate) passed: String,
     pub(crate) derived_clocks: usize,
+}
+
+/// Written by hand so that code which drops it needs no proof about its contents.
+impl Drop for Written {
+    fn drop(self) {
+        let Written {
+            text,
+            entity,
+            map,
+            undriven,
+            passed,
+            derived_clocks: _,
+        } = self;
+        drop(text);
+        drop(entity);
+        drop(map);
+        drop(undriven);
+        drop(passed);
+    }
 }
 
 /// The refusal of a number above a limit of vsim.
@@ -145,6 +163,32 @@ fn map_and_note(
     Ok((map, note))
 }
 
+/// Adds the map, the note about what nothing drives, and the name of the entity.
+fn fill(
+    written: &mut Written,
+    statements: &Statements,
+    request: &Request<'_>,
+    uses: &Uses,
+) -> Result<(), AllocError> {
+    let (map, undriven) = map_and_note(statements, request, uses)?;
+    written.map = map;
+    written.undriven = undriven;
+    written.entity = String::from_str(statements.alloc, statements.signals.entity.as_str())?;
+    Ok(())
+}
+
+/// The text alone.
+fn with_text(alloc: Global, text: String, derived_clocks: usize) -> Written {
+    Written {
+        text,
+        entity: String::new(alloc),
+        map: String::new(alloc),
+        undriven: String::new(alloc),
+        passed: String::new(alloc),
+        derived_clocks,
+    }
+}
+
 /// The finished text and map.
 fn finished(
     statements: &Statements,
@@ -153,16 +197,9 @@ fn finished(
     derived_clocks: usize,
 ) -> Result<Written, Fault> {
     let text = limited(statements, request.is_large)?;
-    let (map, undriven) = map_and_note(statements, request, uses)?;
-    let entity = String::from_str(statements.alloc, statements.signals.entity.as_str())?;
-    Ok(Written {
-        text,
-        entity,
-        map,
-        undriven,
-        passed: String::new(statements.alloc),
-        derived_clocks,
-    })
+    let mut written = with_text(statements.alloc, text, derived_clocks);
+    fill(&mut written, statements, request, uses)?;
+    Ok(written)
 }
 
 /// The uses of the nets of a netlist without a loop of wires, and without a net that two inputs or
@@ -218,16 +255,15 @@ fn signals(
     Ok(signals)
 }
 
-/// The statements of the cells, which name those signals that need a name.
-fn cell_statements(
+/// No statements, with the signals of the netlist.
+fn no_statements(
     alloc: Global,
     request: &Request<'_>,
     uses: &Uses,
     within: &[bool],
 ) -> Result<Statements, AllocError> {
     let signals = signals(alloc, request, uses, within)?;
-    let statements = Statements::new(alloc, signals);
-    put_cells(statements, request.netlist, request.delays, uses, within)
+    Ok(Statements::new(alloc, signals))
 }
 
 /// Adds the statements of the stimuli, if there are any.
@@ -242,13 +278,15 @@ fn put_inputs(
     }
 }
 
-/// Adds the statements of the stimuli. Returns the text and the map.
-fn finish(
+/// Adds the statements of the cells and of the stimuli. Returns the text and the map.
+fn filled(
     statements: &mut Statements,
     request: &Request<'_>,
     uses: &Uses,
     clocks: &Clocks,
+    within: &[bool],
 ) -> Result<Written, Fault> {
+    put_cells(statements, request.netlist, request.delays, uses, within)?;
     put_inputs(statements, request, clocks.is_before.as_slice())?;
     finished(statements, request, uses, clocks.derived)
 }
@@ -262,8 +300,8 @@ fn write_with(
 ) -> Result<Written, Fault> {
     let has_delays = request.netlist.has_paths || !request.delays.is_empty();
     let within = all_within(alloc, request.netlist, uses, has_delays)?;
-    let mut statements = cell_statements(alloc, request, uses, within.as_slice())?;
-    finish(&mut statements, request, uses, clocks)
+    let mut statements = no_statements(alloc, request, uses, within.as_slice())?;
+    filled(&mut statements, request, uses, clocks, within.as_slice())
 }
 
 /// Writes the text of a netlist.

@@ -163,12 +163,13 @@ impl MadeWith<Global> for Text {
     }
 }
 
-/// The attributes that matter here.
+/// The attributes and parameters that matter here.
 #[derive(Drop)]
 pub(crate) struct Attributes {
     pub(crate) src: Text,
     pub(crate) top: Text,
     pub(crate) init: Text,
+    pub(crate) table: Text,
 }
 
 impl MadeWith<Global> for Attributes {
@@ -177,12 +178,18 @@ impl MadeWith<Global> for Attributes {
             src: MadeWith::made_with(alloc),
             top: MadeWith::made_with(alloc),
             init: MadeWith::made_with(alloc),
+            table: MadeWith::made_with(alloc),
         }
     }
 }
 
 impl<'de> FromObject<'de> for Attributes {
-    const NAMES: &'static [Name<'static>] = &[exact!("src"), exact!("top"), exact!("init")];
+    const NAMES: &'static [Name<'static>] = &[
+        exact!("src"),
+        exact!("top"),
+        exact!("init"),
+        exact!("LUT"),
+    ];
 
     const REQUIRED: usize = 0;
 
@@ -196,6 +203,7 @@ impl<'de> FromObject<'de> for Attributes {
             0 => read_value(&mut self.src, alloc, from),
             1 => read_value(&mut self.top, alloc, from),
             2 => read_value(&mut self.init, alloc, from),
+            3 => read_value(&mut self.table, alloc, from),
             _ => from.skip(),
         }
     }
@@ -206,47 +214,6 @@ impl<'de> Deserialize<'de> for Attributes {
         alloc: Global,
         from: &mut Deserializer<'de, '_, F>,
     ) -> Result<Attributes, F::Error> {
-        read_object(alloc, from)
-    }
-}
-
-/// The parameters that matter here.
-#[derive(Drop)]
-pub(crate) struct Parameters {
-    pub(crate) table: Text,
-}
-
-impl MadeWith<Global> for Parameters {
-    fn made_with(alloc: Global) -> Parameters {
-        Parameters {
-            table: MadeWith::made_with(alloc),
-        }
-    }
-}
-
-impl<'de> FromObject<'de> for Parameters {
-    const NAMES: &'static [Name<'static>] = &[exact!("LUT")];
-
-    const REQUIRED: usize = 0;
-
-    fn read_member<F: Format>(
-        &mut self,
-        member: usize,
-        alloc: Global,
-        from: &mut Deserializer<'de, '_, F>,
-    ) -> Result<(), F::Error> {
-        match member {
-            0 => read_value(&mut self.table, alloc, from),
-            _ => from.skip(),
-        }
-    }
-}
-
-impl<'de> Deserialize<'de> for Parameters {
-    fn deserialize<F: Format>(
-        alloc: Global,
-        from: &mut Deserializer<'de, '_, F>,
-    ) -> Result<Parameters, F::Error> {
         read_object(alloc, from)
     }
 }
@@ -300,7 +267,7 @@ impl<'de> Deserialize<'de> for WrittenPort {
 pub(crate) struct WrittenCell {
     pub(crate) kind: String,
     pub(crate) connections: Members<Vec<WrittenBit>>,
-    pub(crate) parameters: Parameters,
+    pub(crate) parameters: Attributes,
     pub(crate) attributes: Attributes,
 }
 

@@ -1,12 +1,13 @@
 //! The cells of a module, by their types.
 
 use crate::document::{WrittenBit, WrittenCell};
-use crate::library_cells::{Parts, library_cells};
+use crate::library_cells::put_library_cell;
 use crate::nets::Nets;
 use crate::registers::letters;
-use std::alloc::Global;
+use std::alloc::{AllocError, Global};
 use vsim_netlist_design::{
-    Bit, Cell, Control, Delays, Draft, Fault, Gate, GateCell, Level, Library, Register, Style, push,
+    Bit, Control, Delays, Draft, Fault, Gate, GateCell, Level, Library, Netlist, Register, Style,
+    push,
 };
 
 /// Where cells are made, and the library of those that are not Yosys' own.
@@ -177,24 +178,36 @@ fn inputs(
     Ok(bits)
 }
 
-/// Reads a gate other than a look-up table.
-fn gate(
+/// A gate of Yosys' library, with the bits of a look-up table if it is one.
+fn own_gate(
     alloc: Global,
-    cell: &WrittenCell,
-    nets: &mut Nets,
     gate: Gate,
-) -> Result<Option<Cell>, Fault> {
-    let output = output(alloc, cell, nets, "Y")?;
-    let inputs = inputs(alloc, cell, nets, gate.pins())?;
-    Ok(Some(Cell::Gate(GateCell {
+    inputs: Vec<Bit>,
+    output: usize,
+    table: Option<String>,
+) -> GateCell {
+    GateCell {
         gate,
         inputs,
         output,
-        table: None,
+        table,
         steps: Vec::new(alloc),
         is_inner: false,
         is_low: false,
-    })))
+    }
+}
+
+/// Adds a gate other than a look-up table.
+fn put_gate(
+    alloc: Global,
+    cell: &WrittenCell,
+    nets: &mut Nets,
+    netlist: &mut Netlist,
+    gate: Gate,
+) -> Result<(), Fault> {
+    let output = output(alloc, cell, nets, "Y")?;
+    let inputs = inputs(alloc, cell, nets, gate.pins())?;
+    Ok(netlist.put_gate(own_gate(alloc, gate, inputs, output, None), None)?)
 }
 
 /// Whether a text has only the digits 0 and 1.
@@ -231,16 +244,6 @@ fn table(alloc: Global, cell: &WrittenCell, inputs: usize) -> Result<&str, Fault
     Ok(table)
 }
 
-/// Reads a look-up table.
-fn lookup(alloc: Global, cell: &WrittenCell, nets: &mut Nets) -> Result<Option<Cell>, Fault> {
-    let output = output(alloc, cell, nets, "Y")?;
-    let Some(written) = pins(cell, "A") else {
-        return Err(Fault::of(alloc, &["its pin A is not connected"]));
-    };
-    let table = table(alloc, cell, written.len())?;
-    lookup_of(alloc, nets, written, table, output)
-}
-
 /// The look-up table with these bits.
 fn lookup_of(
     alloc: Global,
@@ -248,18 +251,31 @@ fn lookup_of(
     written: &[WrittenBit],
     table: &str,
     output: usize,
-) -> Result<Option<Cell>, Fault> {
+) -> Result<GateCell, AllocError> {
     let table = String::from_str(alloc, table)?;
     let inputs = nets.bits(alloc, written)?;
-    Ok(Some(Cell::Gate(GateCell {
-        gate: Gate::Lut,
-        inputs,
-        output,
-        table: Some(table),
-        steps: Vec::new(alloc),
-        is_inner: false,
-        is_low: false,
-    })))
+    Ok(own_gate(alloc, Gate::Lut, inputs, output, Some(table)))
+}
+
+/// Reads a look-up table.
+fn lookup(alloc: Global, cell: &WrittenCell, nets: &mut Nets) -> Result<GateCell, Fault> {
+    let output = output(alloc, cell, nets, "Y")?;
+    let Some(written) = pins(cell, "A") else {
+        return Err(Fault::of(alloc, &["its pin A is not connected"]));
+    };
+    let table = table(alloc, cell, written.len())?;
+    Ok(lookup_of(alloc, nets, written, table, output)?)
+}
+
+/// Adds a look-up table.
+fn put_lookup(
+    alloc: Global,
+    cell: &WrittenCell,
+    nets: &mut Nets,
+    netlist: &mut Netlist,
+) -> Result<(), Fault> {
+    let gate = lookup(alloc, cell, nets)?;
+    Ok(netlist.put_gate(gate, None)?)
 }
 
 /// The name of the pin for a letter.
@@ -339,7 +355,7 @@ fn register(
     given: &str,
     pins: &str,
     style: Style,
-) -> Result<Option<Cell>, Fault> {
+) -> Result<Register, Fault> {
     let output = output(alloc, cell, nets, "Q")?;
     let mut register = Register::new(style, output);
     connect_all(
@@ -351,56 +367,55 @@ fn register(
         given.as_bytes(),
     )?;
     connect_data(alloc, cell, nets, &mut register)?;
-    Ok(Some(Cell::Register(register)))
+    Ok(register)
 }
 
-/// Reads a cell of Yosys' library; `None` if it has no effect in a simulation.
-fn own_cell(
-    alloc: Global,
-    cell: &WrittenCell,
+/// Adds a register, which begins with a level if that is given.
+fn put_register(
+    site: Site<'_>,
     nets: &mut Nets,
-    has_library: bool,
-) -> Result<Option<Cell>, Fault> {
-    let kind = cell.kind.as_str();
-    match kind_of(kind) {
-        Kind::Note => Ok(None),
-        Kind::Other => {
-            let told = advice(kind, has_library);
-            Err(Fault::of(alloc, &[told]))
-        }
-        Kind::Gate(Gate::Lut) => lookup(alloc, cell, nets),
-        Kind::Gate(found) => gate(alloc, cell, nets, found),
-        Kind::Register(given, pins, style) => register(alloc, cell, nets, given, pins, style),
-    }
-}
-
-/// Sets the level with which a register begins, if it is given.
-fn begin(site: Site<'_>, nets: &mut Nets, cell: &Cell) {
-    if let (Cell::Register(register), Some(level)) = (cell, site.initial) {
+    netlist: &mut Netlist,
+    register: &Register,
+) -> Result<(), Fault> {
+    if let Some(level) = site.initial {
         nets.set_initial(register.output, level);
     }
+    Ok(netlist.put_register(register)?)
 }
 
-/// Reads a cell of Yosys' library: one, or none if it has no effect in a simulation.
-fn own_cells(site: Site<'_>, cell: &WrittenCell, nets: &mut Nets) -> Result<Parts, Fault> {
-    let mut parts = Parts::new(site.alloc);
-    let has_library = !site.library.is_empty();
-    if let Some(cell) = own_cell(site.alloc, cell, nets, has_library)? {
-        begin(site, nets, &cell);
-        parts.put(cell, None)?;
+/// Adds a cell of Yosys' library, unless it has no effect in a simulation.
+fn put_own_cell(
+    site: Site<'_>,
+    cell: &WrittenCell,
+    nets: &mut Nets,
+    netlist: &mut Netlist,
+) -> Result<(), Fault> {
+    let (alloc, kind) = (site.alloc, cell.kind.as_str());
+    match kind_of(kind) {
+        Kind::Note => Ok(()),
+        Kind::Other => {
+            let told = advice(kind, !site.library.is_empty());
+            Err(Fault::of(alloc, &[told]))
+        }
+        Kind::Gate(Gate::Lut) => put_lookup(alloc, cell, nets, netlist),
+        Kind::Gate(gate) => put_gate(alloc, cell, nets, netlist, gate),
+        Kind::Register(given, pins, style) => {
+            let register = register(alloc, cell, nets, given, pins, style)?;
+            put_register(site, nets, netlist, &register)
+        }
     }
-    Ok(parts)
 }
 
-/// Reads a cell: the gates and registers that make it up, none if it has no effect in a simulation.
-pub(crate) fn make_cells(
+/// Adds the gates and registers that make up a cell, none if it has no effect in a simulation.
+pub(crate) fn put_cell(
     site: Site<'_>,
     name: &str,
     cell: &WrittenCell,
     nets: &mut Nets,
-) -> Result<Parts, Fault> {
+    netlist: &mut Netlist,
+) -> Result<(), Fault> {
     match site.library.find(cell.kind.as_str()) {
-        Some(entry) => library_cells(site, name, cell, nets, entry),
-        None => own_cells(site, cell, nets),
+        Some(entry) => put_library_cell(site, name, cell, nets, netlist, entry),
+        None => put_own_cell(site, cell, nets, netlist),
     }
 }

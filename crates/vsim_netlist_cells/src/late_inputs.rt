@@ -1,10 +1,10 @@
 //! Registers that read inputs a delta cycle after those have changed: what changes with their clock
 //! comes after its edge.
 
-use crate::library_cells::{Parts, buffer};
+use crate::library_cells::buffer;
 use crate::nets::Nets;
 use std::alloc::{AllocError, Global};
-use vsim_netlist_design::{Bit, Cell, Control, Netlist, Port, Register, Style};
+use vsim_netlist_design::{Bit, Cell, Control, Netlist, Port, Register, Style, push};
 
 /// What a net is: an input, one that another net follows, or none.
 #[derive(Clone, Copy)]
@@ -19,7 +19,7 @@ enum Role {
 struct LateInputs<'a> {
     alloc: Global,
     roles: Vec<Role>,
-    parts: &'a mut Parts,
+    buffers: &'a mut Vec<Cell>,
 }
 
 /// Marks the bits of an input.
@@ -50,11 +50,16 @@ fn is_synchronous(style: Style) -> bool {
 }
 
 impl LateInputs<'_> {
+    /// Adds a buffer from one net to another.
+    fn put_buffer(&mut self, from: usize, to: usize) -> Result<(), AllocError> {
+        let buffer = buffer(self.alloc, from, to)?;
+        push(self.buffers, Cell::Gate(buffer))
+    }
+
     /// Adds the net that follows an input.
     fn follow(&mut self, nets: &mut Nets, place: usize) -> Result<Bit, AllocError> {
         let late = nets.add()?;
-        let buffer = buffer(self.alloc, place, late)?;
-        self.parts.put(buffer, None)?;
+        self.put_buffer(place, late)?;
         if let Some(role) = self.roles.get_mut(place) {
             *role = Role::Followed(late);
         }
@@ -120,18 +125,18 @@ impl LateInputs<'_> {
 }
 
 /// Lets the registers of a netlist read inputs a delta cycle later: their data, and what else has an
-/// effect at edges of their clock alone. The buffers for it are added to the parts.
+/// effect at edges of their clock alone. The buffers for it are added to these.
 pub(crate) fn read_inputs_late(
     alloc: Global,
     nets: &mut Nets,
     netlist: &mut Netlist,
-    parts: &mut Parts,
+    buffers: &mut Vec<Cell>,
 ) -> Result<(), AllocError> {
-    let roles = roles(alloc, netlist.ports.as_slice(), nets.nets.len())?;
+    let roles = roles(alloc, netlist.ports.as_slice(), nets.count())?;
     let mut late = LateInputs {
         alloc,
         roles,
-        parts,
+        buffers,
     };
     late.take_all(nets, netlist.cells.as_mut_slice())
 }

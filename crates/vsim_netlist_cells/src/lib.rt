@@ -7,6 +7,7 @@ mod late_inputs;
 mod library_cells;
 mod logic;
 mod modules;
+mod names;
 mod nets;
 mod object;
 mod pins;

@@ -10,14 +10,12 @@ use crate::nets::Nets;
 use crate::timings::{Connected, Timed};
 use std::alloc::{AllocError, Global};
 use vsim_netlist_design::{
-    Bit, Cell, Conflict, Control, Fault, Function, Gate, GateCell, Level, LibraryCell,
-    LibraryEntry, LibraryPin, LibraryState, PathDelay, Register, Source, Step, Timing, Variant,
-    push,
+    Bit, Conflict, Control, Fault, Function, Gate, GateCell, Level, LibraryCell, LibraryEntry,
+    LibraryPin, LibraryState, Netlist, PathDelay, Register, Source, Step, Timing, Variant, push,
 };
 
 /// A cell that is being made: the bits of its pins and the nets of its register's variables, as far
-/// as they are known, and the gates and registers that make it up.
-#[derive(Drop)]
+/// as they are known, and the netlist to which its gates and registers are added.
 struct Making<'a> {
     alloc: Global,
     model: &'a LibraryCell,
@@ -27,37 +25,23 @@ struct Making<'a> {
     timed: Option<&'a Timed<'a>>,
     /// The level with which its register begins, if it is given.
     initial: Option<Level>,
-    parts: Parts,
+    netlist: &'a mut Netlist,
 }
 
-/// The gates and registers that make up a cell, each with its delays if a file has them.
-#[derive(Drop)]
-pub(crate) struct Parts {
-    pub(crate) cells: Vec<Cell>,
-    pub(crate) timings: Vec<Option<Timing>>,
-}
-
-impl Parts {
-    /// Nothing.
-    pub(crate) fn new(alloc: Global) -> Parts {
-        Parts {
-            cells: Vec::new(alloc),
-            timings: Vec::new(alloc),
-        }
-    }
-
-    /// Adds a gate or a register.
-    pub(crate) fn put(&mut self, cell: Cell, timing: Option<Timing>) -> Result<(), AllocError> {
-        push(&mut self.cells, cell)?;
-        push(&mut self.timings, timing)
-    }
-
-    /// Sets the delays of the last one.
-    fn time_last(&mut self, timing: Timing) {
-        let place = self.timings.len().saturating_sub(1);
-        if let Some(last) = self.timings.get_mut(place) {
-            *last = Some(timing);
-        }
+/// Written by hand so that code which drops it needs no proof about its contents.
+impl Drop for Making<'_> {
+    fn drop(self) {
+        let Making {
+            alloc: _,
+            model: _,
+            bits,
+            plain: _,
+            negated: _,
+            timed: _,
+            initial: _,
+            netlist: _,
+        } = self;
+        drop(bits);
     }
 }
 
@@ -110,11 +94,6 @@ impl Making<'_> {
         Ok(bits)
     }
 
-    /// Adds a gate or a register.
-    fn put(&mut self, cell: Cell) -> Result<(), Fault> {
-        Ok(self.parts.put(cell, None)?)
-    }
-
     /// Gives the last gate or register the delays of the paths to an output, if a file has them.
     fn time(&mut self, output: &str) -> Result<(), Fault> {
         let Some(timed) = self.timed else {
@@ -122,7 +101,7 @@ impl Making<'_> {
         };
         let (model, bits) = (self.model, self.bits.as_slice());
         let timing = timed.timing(Connected { model, bits }, output)?;
-        self.parts.time_last(timing);
+        self.netlist.time_last(timing);
         Ok(())
     }
 
@@ -176,7 +155,7 @@ impl Making<'_> {
     ) -> Result<(), Fault> {
         let inputs = self.source_bits(function)?;
         let steps = steps_of(function, is_negated)?;
-        self.put(Cell::Gate(GateCell {
+        let gate = GateCell {
             gate: gate_of(function, is_negated),
             inputs,
             output,
@@ -184,7 +163,8 @@ impl Making<'_> {
             steps,
             is_inner,
             is_low: false,
-        }))
+        };
+        Ok(self.netlist.put_gate(gate, None)?)
     }
 
     /// The bit of a function, or of its negation, which a gate inside of the cell may compute.
@@ -273,6 +253,18 @@ impl Making<'_> {
         Ok(())
     }
 
+    /// Adds all that a register has.
+    fn fill(
+        &mut self,
+        nets: &mut Nets,
+        state: &LibraryState,
+        variant: Variant,
+        register: &mut Register,
+    ) -> Result<(), Fault> {
+        self.fill_data(nets, state, variant, register)?;
+        self.fill_levels(nets, state, variant, register)
+    }
+
     /// Adds the register of a variable, if that has a net.
     fn put_register(
         &mut self,
@@ -287,9 +279,8 @@ impl Making<'_> {
             nets.set_initial(output, level_of(level, variant == Variant::Negated));
         }
         let mut register = Register::new(style_of(state), output);
-        self.fill_data(nets, state, variant, &mut register)?;
-        self.fill_levels(nets, state, variant, &mut register)?;
-        self.put(Cell::Register(register))?;
+        self.fill(nets, state, variant, &mut register)?;
+        self.netlist.put_register(&register)?;
         self.time_register(state, variant)
     }
 
@@ -415,7 +406,7 @@ impl Making<'_> {
     ) -> Result<(), Fault> {
         let (mut inputs, steps) = self.any_driven(nets, function)?;
         push(&mut inputs, off.bit)?;
-        self.put(Cell::Gate(GateCell {
+        let gate = GateCell {
             gate: Gate::Tristate,
             inputs,
             output,
@@ -423,7 +414,8 @@ impl Making<'_> {
             steps,
             is_inner: false,
             is_low: off.is_high,
-        }))
+        };
+        Ok(self.netlist.put_gate(gate, None)?)
     }
 
     /// Adds a three-state buffer.
@@ -570,10 +562,10 @@ fn connections(
 }
 
 /// A buffer inside of a cell, from one net to another.
-pub(crate) fn buffer(alloc: Global, from: usize, to: usize) -> Result<Cell, AllocError> {
+pub(crate) fn buffer(alloc: Global, from: usize, to: usize) -> Result<GateCell, AllocError> {
     let mut inputs = Vec::new(alloc);
     push(&mut inputs, Bit::Net(from))?;
-    Ok(Cell::Gate(GateCell {
+    Ok(GateCell {
         gate: Gate::Buf,
         inputs,
         output: to,
@@ -581,7 +573,7 @@ pub(crate) fn buffer(alloc: Global, from: usize, to: usize) -> Result<Cell, Allo
         steps: Vec::new(alloc),
         is_inner: true,
         is_low: false,
-    }))
+    })
 }
 
 /// The delays of a wire.
@@ -606,7 +598,7 @@ impl Making<'_> {
     fn put_buffer(&mut self, path: PathDelay, end: usize) -> Result<(), AllocError> {
         let timing = timing_of(self.alloc, path)?;
         let buffer = buffer(self.alloc, path.from, end)?;
-        self.parts.put(buffer, Some(timing))
+        self.netlist.put_gate(buffer, Some(timing))
     }
 
     /// Puts the wire to the pin at a place before it, if it takes time.
@@ -651,14 +643,15 @@ impl Making<'_> {
     }
 }
 
-/// The gates and registers that make up a cell of this kind, which may have delays of a file.
-fn parts_of(
+/// Adds the gates and registers that make up a cell of this kind, which may have delays of a file.
+fn put_parts(
     site: Site<'_>,
     cell: &WrittenCell,
     nets: &mut Nets,
+    netlist: &mut Netlist,
     model: &LibraryCell,
     timed: Option<&Timed<'_>>,
-) -> Result<Parts, Fault> {
+) -> Result<(), Fault> {
     let alloc = site.alloc;
     let bits = connections(alloc, nets, model, cell)?;
     let mut making = Making {
@@ -669,37 +662,38 @@ fn parts_of(
         negated: None,
         timed,
         initial: site.initial,
-        parts: Parts::new(alloc),
+        netlist,
     };
-    making.put_all(nets)?;
-    Ok(making.parts)
+    making.put_all(nets)
 }
 
-/// The same with the delays of an instance.
-fn timed_parts_of(
+/// Adds the same with the delays of an instance.
+fn put_timed_parts(
     site: Site<'_>,
     name: &str,
     cell: &WrittenCell,
     nets: &mut Nets,
+    netlist: &mut Netlist,
     model: &LibraryCell,
-) -> Result<Parts, Fault> {
+) -> Result<(), Fault> {
     let Some(delays) = site.delays else {
-        return parts_of(site, cell, nets, model, None);
+        return put_parts(site, cell, nets, netlist, model, None);
     };
     let timed = Timed::new(site.alloc, delays, name, cell.kind.as_str())?;
-    parts_of(site, cell, nets, model, Some(&timed))
+    put_parts(site, cell, nets, netlist, model, Some(&timed))
 }
 
-/// The gates and registers that make up a cell of a library.
-pub(crate) fn library_cells(
+/// Adds the gates and registers that make up a cell of a library.
+pub(crate) fn put_library_cell(
     site: Site<'_>,
     name: &str,
     cell: &WrittenCell,
     nets: &mut Nets,
+    netlist: &mut Netlist,
     entry: &LibraryEntry,
-) -> Result<Parts, Fault> {
+) -> Result<(), Fault> {
     match entry {
-        LibraryEntry::Known(model) => timed_parts_of(site, name, cell, nets, model),
+        LibraryEntry::Known(model) => put_timed_parts(site, name, cell, nets, netlist, model),
         LibraryEntry::Refused(told) => Err(Fault::of(site.alloc, &[told.as_str()])),
     }
 }

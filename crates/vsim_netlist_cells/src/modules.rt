@@ -1,13 +1,14 @@
 //! The simulated module of a netlist.
 
 use crate::document::{Document, Members, Module, WrittenCell, WrittenName, WrittenPort};
-use crate::kinds::{Site, make_cells};
+use crate::kinds::{Site, put_cell};
 use crate::late_inputs::read_inputs_late;
-use crate::library_cells::Parts;
+use crate::names::Names;
 use crate::nets::Nets;
-use indexmap::IndexSet;
 use std::alloc::{AllocError, Global};
-use vsim_netlist_design::{Delays, Draft, Fault, Level, Library, Netlist, Port, Variable, push};
+use vsim_netlist_design::{
+    Cell, Delays, Draft, Fault, Level, Library, Netlist, Port, Timing, Variable, push,
+};
 
 /// Whether a module is marked as the top.
 fn is_top(module: &Module) -> bool {
@@ -43,19 +44,9 @@ pub(crate) fn wanted<'a>(
     }
 }
 
-/// Notes a name, and returns whether it was not there yet.
-fn is_new(names: &mut IndexSet<String>, name: &String) -> Result<bool, AllocError> {
-    Ok(names.insert(name.clone()?)?)
-}
-
 /// Refuses a name that is there already, and notes it otherwise. `what` says whose name it is.
-fn note(
-    alloc: Global,
-    names: &mut IndexSet<String>,
-    name: &String,
-    what: &str,
-) -> Result<(), Fault> {
-    if !is_new(names, name)? {
+fn note(alloc: Global, names: &mut Names, name: &String, what: &str) -> Result<(), Fault> {
+    if !names.add(name)? {
         return Err(Fault::of(alloc, &[what, " is there twice"]));
     }
     Ok(())
@@ -100,13 +91,13 @@ fn put_port(
 }
 
 /// Adds the ports of a module.
-pub(crate) fn put_ports(
+fn put_ports(
     alloc: Global,
     nets: &mut Nets,
     ports: &mut Vec<Port>,
     written: &Members<WrittenPort>,
 ) -> Result<(), Fault> {
-    let mut names = IndexSet::new(alloc);
+    let mut names = Names::new(alloc);
     put_each_port(alloc, nets, ports, &mut names, written)
 }
 
@@ -115,7 +106,7 @@ fn put_each_port(
     alloc: Global,
     nets: &mut Nets,
     ports: &mut Vec<Port>,
-    names: &mut IndexSet<String>,
+    names: &mut Names,
     written: &Members<WrittenPort>,
 ) -> Result<(), Fault> {
     for (name, written) in written.entries.iter() {
@@ -134,15 +125,16 @@ fn about_cell(alloc: Global, fault: Fault, name: &str, written: &WrittenCell) ->
     }
 }
 
-/// Reads a cell, as the cells that make it up. The error names its place in the source.
-fn placed_cells(
+/// Adds the gates and registers that make up a cell. The error names its place in the source.
+fn put_placed_cell(
     site: Site<'_>,
     nets: &mut Nets,
+    netlist: &mut Netlist,
     name: &str,
     written: &WrittenCell,
-) -> Result<Parts, Fault> {
-    match make_cells(site, name, written, nets) {
-        Ok(parts) => Ok(parts),
+) -> Result<(), Fault> {
+    match put_cell(site, name, written, nets, netlist) {
+        Ok(()) => Ok(()),
         Err(fault) => Err(about_cell(site.alloc, fault, name, written)),
     }
 }
@@ -171,12 +163,6 @@ fn put_origins(origins: &mut Vec<String>, origin: &String, count: usize) -> Resu
     Ok(())
 }
 
-/// Adds the cells that make up one, with their delays.
-fn append(netlist: &mut Netlist, parts: &mut Parts) -> Result<(), AllocError> {
-    netlist.cells.append(&mut parts.cells)?;
-    netlist.timings.append(&mut parts.timings)
-}
-
 /// Notes that a cell has the name of an instance of which a file has delays, if it has.
 fn note_instance(site: Site<'_>, netlist: &mut Netlist, name: &str) {
     let Some(delays) = site.delays else {
@@ -188,7 +174,7 @@ fn note_instance(site: Site<'_>, netlist: &mut Netlist, name: &str) {
     }
 }
 
-/// Adds the cells that make up one, none if that has no effect in a simulation.
+/// Adds the gates and registers that make up a cell, none if that has no effect in a simulation.
 fn put_parts_of_cell(
     site: Site<'_>,
     nets: &mut Nets,
@@ -197,9 +183,10 @@ fn put_parts_of_cell(
     written: &WrittenCell,
     origin: &String,
 ) -> Result<(), Fault> {
-    let mut parts = placed_cells(site, nets, name, written)?;
-    put_origins(&mut netlist.origins, origin, parts.cells.len())?;
-    Ok(append(netlist, &mut parts)?)
+    let before = netlist.cells.len();
+    put_placed_cell(site, nets, netlist, name, written)?;
+    let count = netlist.cells.len().saturating_sub(before);
+    Ok(put_origins(&mut netlist.origins, origin, count)?)
 }
 
 /// Adds a cell whose name is not among these, and notes its name.
@@ -207,7 +194,7 @@ fn put_new_cell(
     site: Site<'_>,
     nets: &mut Nets,
     netlist: &mut Netlist,
-    names: &mut IndexSet<String>,
+    names: &mut Names,
     name: &String,
     written: &WrittenCell,
 ) -> Result<(), Fault> {
@@ -222,7 +209,7 @@ fn put_each_cell(
     site: Site<'_>,
     nets: &mut Nets,
     netlist: &mut Netlist,
-    names: &mut IndexSet<String>,
+    names: &mut Names,
     written: &Members<WrittenCell>,
 ) -> Result<(), Fault> {
     for (name, written) in written.entries.iter() {
@@ -238,29 +225,24 @@ fn put_cells(
     netlist: &mut Netlist,
     written: &Members<WrittenCell>,
 ) -> Result<(), Fault> {
-    let mut names = IndexSet::new(site.alloc);
+    let mut names = Names::new(site.alloc);
     put_each_cell(site, nets, netlist, &mut names, written)
 }
 
-/// The names of ports with a dot. They are escaped names, as a port is in no scope.
-pub(crate) fn escaped_names(alloc: Global, ports: &[Port]) -> Result<IndexSet<String>, AllocError> {
-    let mut names = IndexSet::new(alloc);
-    for port in ports {
-        if port.name.as_str().contains('.') {
-            let _ = is_new(&mut names, &port.name)?;
+/// Notes the names of ports with a dot. They are escaped names, as a port is in no scope.
+fn note_escaped(names: &mut Names, ports: &Members<WrittenPort>) -> Result<(), AllocError> {
+    for (name, _written) in ports.entries.iter() {
+        if name.as_str().contains('.') {
+            let _ = names.add(name)?;
         }
     }
-    Ok(names)
+    Ok(())
 }
 
 /// A name of the source, after a backslash if it is an escaped one with a dot.
-fn source_name(
-    alloc: Global,
-    escaped: &IndexSet<String>,
-    name: &str,
-) -> Result<String, AllocError> {
+fn source_name(alloc: Global, escaped: &Names, name: &str) -> Result<String, AllocError> {
     let mut text = Draft::new(alloc);
-    if escaped.get_index_of(name).is_some() {
+    if escaped.has(name) {
         text.push("\\");
     }
     text.push(name);
@@ -272,7 +254,7 @@ fn put_variable(
     alloc: Global,
     nets: &mut Nets,
     variables: &mut Vec<Variable>,
-    escaped: &IndexSet<String>,
+    escaped: &Names,
     name: &str,
     written: &WrittenName,
 ) -> Result<(), AllocError> {
@@ -284,11 +266,11 @@ fn put_variable(
 }
 
 /// Adds the source's names of nets, given the names that are escaped.
-pub(crate) fn put_each_variable(
+fn put_each_variable(
     alloc: Global,
     nets: &mut Nets,
     variables: &mut Vec<Variable>,
-    escaped: &IndexSet<String>,
+    escaped: &Names,
     written: &Members<WrittenName>,
 ) -> Result<(), AllocError> {
     for (name, written) in written.entries.iter() {
@@ -298,14 +280,15 @@ pub(crate) fn put_each_variable(
 }
 
 /// Adds the source's names of nets.
-fn put_variables(
+pub(crate) fn put_variables(
     alloc: Global,
     nets: &mut Nets,
-    netlist: &mut Netlist,
-    written: &Members<WrittenName>,
+    variables: &mut Vec<Variable>,
+    module: &Module,
 ) -> Result<(), AllocError> {
-    let escaped = escaped_names(alloc, netlist.ports.as_slice())?;
-    put_each_variable(alloc, nets, &mut netlist.variables, &escaped, written)
+    let mut escaped = Names::new(alloc);
+    note_escaped(&mut escaped, &module.ports)?;
+    put_each_variable(alloc, nets, variables, &escaped, &module.netnames)
 }
 
 /// Lets registers read inputs a delta cycle later, if cells have delays of a file.
@@ -313,37 +296,59 @@ fn put_late_inputs(site: Site<'_>, nets: &mut Nets, netlist: &mut Netlist) -> Re
     if site.delays.is_none() {
         return Ok(());
     }
-    let mut parts = Parts::new(site.alloc);
-    read_inputs_late(site.alloc, nets, netlist, &mut parts)?;
-    Ok(append_late(site.alloc, netlist, &mut parts)?)
+    let mut buffers = Vec::new(site.alloc);
+    read_inputs_late(site.alloc, nets, netlist, &mut buffers)?;
+    Ok(put_buffers(site.alloc, netlist, &mut buffers)?)
 }
 
-/// Adds the cells by which registers read inputs late.
-fn append_late(alloc: Global, netlist: &mut Netlist, parts: &mut Parts) -> Result<(), AllocError> {
+/// Adds the buffers by which registers read inputs late.
+fn put_buffers(
+    alloc: Global,
+    netlist: &mut Netlist,
+    buffers: &mut Vec<Cell>,
+) -> Result<(), AllocError> {
     let origin = String::from_str(alloc, "an input")?;
-    put_origins(&mut netlist.origins, &origin, parts.cells.len())?;
-    append(netlist, parts)
+    put_origins(&mut netlist.origins, &origin, buffers.len())?;
+    put_untimed(&mut netlist.timings, buffers.len())?;
+    netlist.cells.append(buffers)
 }
 
-/// Adds the ports, cells and names of a module.
+/// Adds the delays of this number of cells without any.
+fn put_untimed(timings: &mut Vec<Option<Timing>>, count: usize) -> Result<(), AllocError> {
+    for _ in 0..count {
+        push(timings, None)?;
+    }
+    Ok(())
+}
+
+/// Adds the ports and cells of a module.
 fn put_parts(
     site: Site<'_>,
     nets: &mut Nets,
     netlist: &mut Netlist,
     module: &Module,
 ) -> Result<(), Fault> {
-    let alloc = site.alloc;
-    put_ports(alloc, nets, &mut netlist.ports, &module.ports)?;
-    put_cells(site, nets, netlist, &module.cells)?;
-    Ok(put_variables(alloc, nets, netlist, &module.netnames)?)
+    put_ports(site.alloc, nets, &mut netlist.ports, &module.ports)?;
+    put_cells(site, nets, netlist, &module.cells)
 }
 
-/// Adds all parts of a module.
+/// Adds all parts of a module, with their nets.
+fn put_all(
+    site: Site<'_>,
+    nets: &mut Nets,
+    netlist: &mut Netlist,
+    module: &Module,
+) -> Result<(), Fault> {
+    put_parts(site, nets, netlist, module)?;
+    put_variables(site.alloc, nets, &mut netlist.variables, module)?;
+    put_late_inputs(site, nets, netlist)
+}
+
+/// Adds all parts of a module, and its nets.
 fn put_module(site: Site<'_>, netlist: &mut Netlist, module: &Module) -> Result<(), Fault> {
     let mut nets = Nets::new(site.alloc);
-    put_parts(site, &mut nets, netlist, module)?;
-    put_late_inputs(site, &mut nets, netlist)?;
-    netlist.nets = nets.nets;
+    put_all(site, &mut nets, netlist, module)?;
+    netlist.nets = nets.into_list();
     Ok(())
 }
 
@@ -355,21 +360,16 @@ fn count_instances(site: Site<'_>) -> usize {
     }
 }
 
+/// A netlist without gates.
+fn empty_netlist(site: Site<'_>, name: &str) -> Result<Netlist, AllocError> {
+    let instances = vec![in site.alloc; false; count_instances(site)]?;
+    let name = String::from_str(site.alloc, name)?;
+    Ok(Netlist::new(site.alloc, name, site.delays.is_some(), instances))
+}
+
 /// Reads the netlist of a module.
 fn make_netlist(site: Site<'_>, name: &str, module: &Module) -> Result<Netlist, Fault> {
-    let alloc = site.alloc;
-    let name = String::from_str(alloc, name)?;
-    let mut netlist = Netlist {
-        name,
-        ports: Vec::new(alloc),
-        cells: Vec::new(alloc),
-        origins: Vec::new(alloc),
-        has_paths: site.delays.is_some(),
-        timings: Vec::new(alloc),
-        instances: vec![in alloc; false; count_instances(site)]?,
-        variables: Vec::new(alloc),
-        nets: Vec::new(alloc),
-    };
+    let mut netlist = empty_netlist(site, name)?;
     put_module(site, &mut netlist, module)?;
     Ok(netlist)
 }

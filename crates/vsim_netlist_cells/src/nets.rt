@@ -1,53 +1,66 @@
 //! The nets of a netlist and their names in the source.
 
 use crate::document::{WrittenBit, WrittenName};
-use indexmap::IndexSet;
 use std::alloc::{AllocError, Global};
+use std::collections::HashMap;
 use vsim_netlist_design::{Bit, Level, Net, Variable, push};
 
 /// The nets, by their numbers in the netlist, and those inside of cells, which have none.
-#[derive(Drop)]
 pub(crate) struct Nets {
-    numbers: IndexSet<u64>,
-    /// For each number the index of its net.
-    places: Vec<usize>,
-    pub(crate) nets: Vec<Net>,
+    /// The indices of nets by their numbers.
+    places: HashMap<u64, usize>,
+    nets: Vec<Net>,
+}
+
+/// Written by hand so that code which drops it needs no proof about its contents.
+impl Drop for Nets {
+    fn drop(self) {
+        let Nets { places, nets } = self;
+        drop(places);
+        drop(nets);
+    }
 }
 
 impl Nets {
     /// No nets.
     pub(crate) fn new(alloc: Global) -> Nets {
         Nets {
-            numbers: IndexSet::new(alloc),
-            places: Vec::new(alloc),
+            places: HashMap::new(alloc),
             nets: Vec::new(alloc),
         }
+    }
+
+    /// The number of nets.
+    pub(crate) fn count(&self) -> usize {
+        self.nets.len()
+    }
+
+    /// All nets.
+    pub(crate) fn into_list(self) -> Vec<Net> {
+        let Nets { places, nets } = self;
+        drop(places);
+        nets
     }
 
     /// The index of a new net.
     pub(crate) fn add(&mut self) -> Result<usize, AllocError> {
         let place = self.nets.len();
-        self.nets.push(Net {
+        let net = Net {
             initial: None,
             is_named: false,
-        })?;
-        Ok(place)
-    }
-
-    /// Adds the net of a new number.
-    fn add_numbered(&mut self) -> Result<usize, AllocError> {
-        let place = self.add()?;
-        push(&mut self.places, place)?;
+        };
+        push(&mut self.nets, net)?;
         Ok(place)
     }
 
     /// The index of the net with a number, which is added if it is new.
     fn place(&mut self, number: u64) -> Result<usize, AllocError> {
-        let (order, _is_new) = self.numbers.insert_full(number)?;
-        if let Some(place) = self.places.get(order) {
+        if let Some(place) = self.places.get(&number) {
             return Ok(*place);
         }
-        self.add_numbered()
+        let place = self.add()?;
+        self.places.insert(number, place)?;
+        Ok(place)
     }
 
     /// Reads a bit. A new net is added.

@@ -1,7 +1,7 @@
 //! What the pins of cells are connected with.
 
 use crate::document::{Members, Module, WrittenBit, WrittenCell};
-use crate::modules::{escaped_names, put_each_variable, put_ports, read_document, wanted};
+use crate::modules::{put_variables, read_document, wanted};
 use crate::nets::Nets;
 use std::alloc::{AllocError, Global};
 use std::collections::HashMap;
@@ -23,7 +23,6 @@ pub struct Instance {
 }
 
 /// The cells of a module, and the names of its nets.
-#[derive(Drop)]
 pub struct Connections {
     pub instances: Vec<Instance>,
     /// The indices of cells by their names.
@@ -31,6 +30,21 @@ pub struct Connections {
     pub variables: Vec<Variable>,
     /// The number of nets, by which bits are given.
     pub nets: usize,
+}
+
+/// Written by hand so that code which drops it needs no proof about its contents.
+impl Drop for Connections {
+    fn drop(self) {
+        let Connections {
+            instances,
+            places,
+            variables,
+            nets: _,
+        } = self;
+        drop(instances);
+        drop(places);
+        drop(variables);
+    }
 }
 
 impl Instance {
@@ -46,6 +60,16 @@ impl Instance {
 }
 
 impl Connections {
+    /// No cells.
+    fn new(alloc: Global) -> Connections {
+        Connections {
+            instances: Vec::new(alloc),
+            places: HashMap::new(alloc),
+            variables: Vec::new(alloc),
+            nets: 0,
+        }
+    }
+
     /// The index of the cell with a name.
     pub fn find(&self, name: &str) -> Option<usize> {
         match self.places.get(name) {
@@ -54,16 +78,10 @@ impl Connections {
         }
     }
 
-    /// Adds a cell. The last of several with one name is the one that is found.
-    fn put(&mut self, instance: Instance) -> Result<(), AllocError> {
-        let name = instance.name.clone()?;
-        let place = self.instances.len();
-        push(&mut self.instances, instance)?;
-        self.note(name, place)
-    }
-
-    /// Notes the index of a cell.
-    fn note(&mut self, name: String, place: usize) -> Result<(), AllocError> {
+    /// Notes the index of the last cell by its name. Of several with one name the last is found.
+    fn note(&mut self, name: &String) -> Result<(), AllocError> {
+        let name = name.clone()?;
+        let place = self.instances.len().saturating_sub(1);
         self.places.insert(name, place)?;
         Ok(())
     }
@@ -110,6 +128,19 @@ fn make_instance(
     Ok(Instance { name, kind, pins })
 }
 
+/// Adds a cell.
+fn put_instance(
+    alloc: Global,
+    nets: &mut Nets,
+    connections: &mut Connections,
+    name: &String,
+    written: &WrittenCell,
+) -> Result<(), AllocError> {
+    let instance = make_instance(alloc, nets, name, written)?;
+    push(&mut connections.instances, instance)?;
+    connections.note(name)
+}
+
 /// Adds the cells of a module.
 fn put_instances(
     alloc: Global,
@@ -118,37 +149,38 @@ fn put_instances(
     written: &Members<WrittenCell>,
 ) -> Result<(), AllocError> {
     for (name, cell) in written.entries.iter() {
-        connections.put(make_instance(alloc, nets, name, cell)?)?;
+        put_instance(alloc, nets, connections, name, cell)?;
     }
     Ok(())
 }
 
-/// Adds the names of nets.
-fn put_names(
+/// Adds the cells of a module, and the names of its nets.
+fn put_all(
     alloc: Global,
     nets: &mut Nets,
     connections: &mut Connections,
     module: &Module,
-) -> Result<(), Fault> {
-    let mut ports = Vec::new(alloc);
-    put_ports(alloc, nets, &mut ports, &module.ports)?;
-    let escaped = escaped_names(alloc, ports.as_slice())?;
-    let variables = &mut connections.variables;
-    Ok(put_each_variable(alloc, nets, variables, &escaped, &module.netnames)?)
+) -> Result<(), AllocError> {
+    put_variables(alloc, nets, &mut connections.variables, module)?;
+    put_instances(alloc, nets, connections, &module.cells)?;
+    connections.nets = nets.count();
+    Ok(())
+}
+
+/// Adds the connections of a module.
+fn put_module(
+    alloc: Global,
+    connections: &mut Connections,
+    module: &Module,
+) -> Result<(), AllocError> {
+    let mut nets = Nets::new(alloc);
+    put_all(alloc, &mut nets, connections, module)
 }
 
 /// The connections of a module.
-fn make_connections(alloc: Global, module: &Module) -> Result<Connections, Fault> {
-    let mut nets = Nets::new(alloc);
-    let mut connections = Connections {
-        instances: Vec::new(alloc),
-        places: HashMap::new(alloc),
-        variables: Vec::new(alloc),
-        nets: 0,
-    };
-    put_names(alloc, &mut nets, &mut connections, module)?;
-    put_instances(alloc, &mut nets, &mut connections, &module.cells)?;
-    connections.nets = nets.nets.len();
+fn make_connections(alloc: Global, module: &Module) -> Result<Connections, AllocError> {
+    let mut connections = Connections::new(alloc);
+    put_module(alloc, &mut connections, module)?;
     Ok(connections)
 }
 
@@ -161,5 +193,5 @@ pub fn read_connections(
 ) -> Result<Connections, Fault> {
     let document = read_document(alloc, text)?;
     let (_name, module) = wanted(alloc, &document, top)?;
-    make_connections(alloc, module)
+    Ok(make_connections(alloc, module)?)
 }

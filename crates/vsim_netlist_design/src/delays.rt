@@ -111,7 +111,6 @@ pub struct Passed {
 }
 
 /// The delays of a file.
-#[derive(Drop)]
 pub struct Delays {
     pub instances: DelayTable,
     /// The delays of all cells of a kind.
@@ -123,6 +122,27 @@ pub struct Delays {
     pub passed: Vec<Passed>,
     /// How many delays are negative and count as 0.
     pub negative: usize,
+}
+
+/// Written by hand so that code which drops it needs no proof about its contents.
+impl Drop for Delays {
+    fn drop(self) {
+        let Delays {
+            instances,
+            kinds,
+            pins,
+            kind_names,
+            conditions,
+            passed,
+            negative: _,
+        } = self;
+        drop(instances);
+        drop(kinds);
+        drop(pins);
+        drop(kind_names);
+        drop(conditions);
+        drop(passed);
+    }
 }
 
 /// The number of entries up to which a list grows by one.
@@ -284,8 +304,16 @@ fn passed_place(passed: &[Passed], name: &str) -> Option<usize> {
 }
 
 impl Delays {
+    /// No delays, in a box: they have many parts, which would be parts of whatever holds them.
+    pub fn new(alloc: Global) -> Result<Box<Delays>, AllocError> {
+        match Box::new(alloc, Delays::empty(alloc)) {
+            Ok(delays) => Ok(delays),
+            Err(_lack) => Err(AllocError),
+        }
+    }
+
     /// No delays.
-    pub fn new(alloc: Global) -> Delays {
+    fn empty(alloc: Global) -> Delays {
         Delays {
             instances: DelayTable::new(alloc),
             kinds: DelayTable::new(alloc),

@@ -3,11 +3,12 @@
 use crate::writing::Draft;
 use std::alloc::{AllocError, Global};
 
-/// Why an input is refused, as a sentence without its end, or a lack of memory.
+/// Why an input is refused, as a sentence without its end, or a lack of memory. The sentence is in a
+/// box: results that may have one are small then, and so are the proofs of functions that pass them.
 #[derive(Drop)]
 pub enum Fault {
     Memory,
-    Refused(Draft),
+    Refused(Box<Draft>),
 }
 
 impl Fault {
@@ -20,10 +21,12 @@ impl Fault {
 
     /// A sentence; a lack of memory if it lacks a part.
     pub fn of_draft(text: Draft) -> Fault {
-        if text.is_whole() {
-            Fault::Refused(text)
-        } else {
-            Fault::Memory
+        if !text.is_whole() {
+            return Fault::Memory;
+        }
+        match Box::new(text.alloc(), text) {
+            Ok(text) => Fault::Refused(text),
+            Err(_lack) => Fault::Memory,
         }
     }
 
@@ -35,7 +38,7 @@ impl Fault {
                 let mut text = Draft::new(alloc);
                 text.push_all(parts);
                 text.push(": ");
-                text.push_draft(&told);
+                text.push_draft(told.as_ref());
                 Fault::of_draft(text)
             }
         }

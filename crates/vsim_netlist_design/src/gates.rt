@@ -35,7 +35,6 @@ pub enum Gate {
 /// inputs of a look-up table come lowest first, and its bits are in `table`, highest first. A gate
 /// of a library has `steps` if it is no multiplexer: those on its inputs, or on its data if it is a
 /// three-state buffer, whose enable comes last.
-#[derive(Drop)]
 pub struct GateCell {
     pub gate: Gate,
     pub inputs: Vec<Bit>,
@@ -46,6 +45,24 @@ pub struct GateCell {
     pub is_inner: bool,
     /// Whether a three-state buffer drives while its enable is `0`.
     pub is_low: bool,
+}
+
+/// Written by hand so that code which drops it needs no proof about its contents.
+impl Drop for GateCell {
+    fn drop(self) {
+        let GateCell {
+            gate: _,
+            inputs,
+            output: _,
+            table,
+            steps,
+            is_inner: _,
+            is_low: _,
+        } = self;
+        drop(inputs);
+        drop(table);
+        drop(steps);
+    }
 }
 
 /// The gates: each with the name of its type in a netlist, its name in `--delays`, and the names of

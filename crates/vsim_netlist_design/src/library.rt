@@ -2,6 +2,7 @@
 
 use crate::gates::Gate;
 use crate::level::Level;
+use crate::lists::push;
 use std::alloc::{AllocError, Global};
 use std::collections::HashMap;
 
@@ -34,11 +35,23 @@ pub enum Variant {
 
 /// A function: its inputs, each once, and its steps. The gate is one that computes it, if there is
 /// one; a multiplexer has no steps, but its inputs in the order of the gate's pins.
-#[derive(Drop)]
 pub struct Function {
     pub gate: Gate,
     pub inputs: Vec<Source>,
     pub steps: Vec<Step>,
+}
+
+/// Written by hand so that code which drops it needs no proof about its contents.
+impl Drop for Function {
+    fn drop(self) {
+        let Function {
+            gate: _,
+            inputs,
+            steps,
+        } = self;
+        drop(inputs);
+        drop(steps);
+    }
 }
 
 /// A pin: its name; for an output its function, and when it does not drive.
@@ -59,7 +72,6 @@ pub enum Conflict {
 
 /// A register or latch of a cell: when it takes its data, what clears and presets it, and what its
 /// variables are while both do.
-#[derive(Drop)]
 pub struct LibraryState {
     pub is_latch: bool,
     pub clock: Option<Function>,
@@ -70,13 +82,45 @@ pub struct LibraryState {
     pub negated: Conflict,
 }
 
+/// Written by hand so that code which drops it needs no proof about its contents.
+impl Drop for LibraryState {
+    fn drop(self) {
+        let LibraryState {
+            is_latch: _,
+            clock,
+            data,
+            clear,
+            preset,
+            plain: _,
+            negated: _,
+        } = self;
+        drop(clock);
+        drop(data);
+        drop(clear);
+        drop(preset);
+    }
+}
+
 /// What a cell is.
-#[derive(Drop)]
 pub struct LibraryCell {
     pub pins: Vec<LibraryPin>,
     /// The indices of pins by their names.
     pub places: HashMap<String, usize>,
     pub state: Option<LibraryState>,
+}
+
+/// Written by hand so that code which drops it needs no proof about its contents.
+impl Drop for LibraryCell {
+    fn drop(self) {
+        let LibraryCell {
+            pins,
+            places,
+            state,
+        } = self;
+        drop(pins);
+        drop(places);
+        drop(state);
+    }
 }
 
 /// A cell of a library, or why a netlist may not have it.
@@ -87,10 +131,18 @@ pub enum LibraryEntry {
 }
 
 /// The cells of one file or several.
-#[derive(Drop)]
 pub struct Library {
     entries: Vec<LibraryEntry>,
     places: HashMap<String, usize>,
+}
+
+/// Written by hand so that code which drops it needs no proof about its contents.
+impl Drop for Library {
+    fn drop(self) {
+        let Library { entries, places } = self;
+        drop(entries);
+        drop(places);
+    }
 }
 
 impl Library {
@@ -118,7 +170,12 @@ impl Library {
     /// Adds a cell. Its name is new.
     pub fn put(&mut self, name: String, entry: LibraryEntry) -> Result<(), AllocError> {
         let place = self.entries.len();
-        self.entries.push(entry)?;
+        push(&mut self.entries, entry)?;
+        self.note(name, place)
+    }
+
+    /// Notes the index of a cell.
+    fn note(&mut self, name: String, place: usize) -> Result<(), AllocError> {
         self.places.insert(name, place)?;
         Ok(())
     }

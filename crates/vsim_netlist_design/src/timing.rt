@@ -35,10 +35,18 @@ pub struct PathCondition {
 }
 
 /// The delays of the paths to the output of a cell, and their conditions.
-#[derive(Drop)]
 pub struct Timing {
     pub paths: Vec<PathDelay>,
     pub conditions: Vec<PathCondition>,
+}
+
+/// Written by hand so that code which drops it needs no proof about its contents.
+impl Drop for Timing {
+    fn drop(self) {
+        let Timing { paths, conditions } = self;
+        drop(paths);
+        drop(conditions);
+    }
 }
 
 impl Timing {

@@ -5,10 +5,17 @@ use std::fmt::{Display, Write};
 
 /// A text that is being put together. If memory runs out, the draft notes that a part is missing;
 /// a writer adds parts without testing each, and `finish` reports it at the end.
-#[derive(Drop)]
 pub struct Draft {
     text: String,
     is_whole: bool,
+}
+
+/// Written by hand so that code which drops it needs no proof about its contents.
+impl Drop for Draft {
+    fn drop(self) {
+        let Draft { text, is_whole: _ } = self;
+        drop(text);
+    }
 }
 
 impl Draft {
@@ -18,6 +25,11 @@ impl Draft {
             text: String::new(alloc),
             is_whole: true,
         }
+    }
+
+    /// Where the text is.
+    pub fn alloc(&self) -> Global {
+        *self.text.allocator()
     }
 
     /// A text of one part.
@@ -83,10 +95,7 @@ impl Draft {
 
     /// The whole text, or an error if it lacks a part.
     pub fn finish(self) -> Result<String, AllocError> {
-        if self.is_whole {
-            Ok(self.text)
-        } else {
-            Err(AllocError)
-        }
+        let Draft { text, is_whole } = self;
+        if is_whole { Ok(text) } else { Err(AllocError) }
     }
 }

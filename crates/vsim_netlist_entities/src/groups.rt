@@ -41,11 +41,23 @@ struct Group {
 }
 
 /// All groups, by the texts of their shapes and the initial values.
-#[derive(Drop)]
 struct Groups {
     alloc: Global,
     keys: IndexSet<String>,
     groups: Vec<Group>,
+}
+
+/// Written by hand so that code which drops it needs no proof about its contents.
+impl Drop for Groups {
+    fn drop(self) {
+        let Groups {
+            alloc: _,
+            keys,
+            groups,
+        } = self;
+        drop(keys);
+        drop(groups);
+    }
 }
 
 /// The key of a group: the initial value in three characters, and the shape.
@@ -97,6 +109,15 @@ impl Group {
 }
 
 impl Groups {
+    /// No groups.
+    fn new(alloc: Global) -> Groups {
+        Groups {
+            alloc,
+            keys: IndexSet::new(alloc),
+            groups: Vec::new(alloc),
+        }
+    }
+
     /// The index of the group with a key, which is added if it is new.
     fn place(&mut self, key: String, initial: Option<Level>) -> Result<usize, AllocError> {
         let (place, is_new) = self.keys.insert_full(key)?;
@@ -160,6 +181,29 @@ impl Groups {
         }
         self.put(statements, number, process, shape)
     }
+
+    /// Adds processes by their shapes in a catalogue.
+    fn take_each(
+        &mut self,
+        statements: &mut Statements,
+        catalogue: &mut Catalogue,
+        processes: &[TimedProcess],
+    ) -> Result<(), AllocError> {
+        for (number, process) in processes.iter().enumerate() {
+            self.take(statements, catalogue, number, process)?;
+        }
+        Ok(())
+    }
+
+    /// Adds processes. Those that can be in no entity are written.
+    fn take_all(
+        &mut self,
+        statements: &mut Statements,
+        processes: &[TimedProcess],
+    ) -> Result<(), AllocError> {
+        let mut catalogue = Catalogue::of(self.alloc, &statements.signals)?;
+        self.take_each(statements, &mut catalogue, processes)
+    }
 }
 
 /// Writes the processes of a group.
@@ -196,28 +240,14 @@ fn put_groups(statements: &mut Statements, processes: &[TimedProcess], groups: &
     }
 }
 
-/// The groups of processes. Those that can be in no entity are written.
-fn grouped(statements: &mut Statements, processes: &[TimedProcess]) -> Result<Groups, AllocError> {
-    let alloc = statements.alloc;
-    let mut catalogue = Catalogue::of(alloc, &statements.signals)?;
-    let mut groups = Groups {
-        alloc,
-        keys: IndexSet::new(alloc),
-        groups: Vec::new(alloc),
-    };
-    for (number, process) in processes.iter().enumerate() {
-        groups.take(statements, &mut catalogue, number, process)?;
-    }
-    Ok(groups)
-}
-
 /// Writes processes, each of which drives one signal. Those that are equal but for their signals
 /// become instances of one entity where the text is shorter by it.
 pub fn put_processes(
     statements: &mut Statements,
     processes: &[TimedProcess],
 ) -> Result<(), AllocError> {
-    let groups = grouped(statements, processes)?;
+    let mut groups = Groups::new(statements.alloc);
+    groups.take_all(statements, processes)?;
     put_groups(statements, processes, &groups);
     Ok(())
 }

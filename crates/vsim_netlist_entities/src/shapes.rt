@@ -84,10 +84,12 @@ impl Catalogue {
             process: 0,
             input: 0,
         };
+        let marks = vec![in alloc; none; signals.len()]?;
+        let places = places_by_name(alloc, signals)?;
         Ok(Catalogue {
             alloc,
-            places: places_by_name(alloc, signals)?,
-            marks: vec![in alloc; none; signals.len()]?,
+            places,
+            marks,
             processes: 0,
         })
     }

@@ -25,7 +25,7 @@ struct Builder<'a> {
     delays: &'a [NamedDelay],
     uses: &'a Uses,
     within: &'a [bool],
-    statements: Statements,
+    statements: &'a mut Statements,
     /// The expressions of nets whose gates are nested.
     expressions: Vec<Option<Expression>>,
     keys: IndexSet<String>,
@@ -34,9 +34,25 @@ struct Builder<'a> {
     timed: Vec<TimedProcess>,
 }
 
+/// Written by hand so that code which drops it needs no proof about its contents.
 impl Drop for Builder<'_> {
     fn drop(self) {
-        let _statements = self.into_statements();
+        let Builder {
+            alloc: _,
+            netlist: _,
+            delays: _,
+            uses: _,
+            within: _,
+            statements: _,
+            expressions,
+            keys,
+            groups,
+            timed,
+        } = self;
+        drop(expressions);
+        drop(keys);
+        drop(groups);
+        drop(timed);
     }
 }
 
@@ -202,7 +218,7 @@ fn table_of(gate: &GateCell) -> &str {
 impl<'a> Builder<'a> {
     /// No cell has been added to these statements.
     fn new(
-        statements: Statements,
+        statements: &'a mut Statements,
         netlist: &'a Netlist,
         delays: &'a [NamedDelay],
         uses: &'a Uses,
@@ -224,23 +240,6 @@ impl<'a> Builder<'a> {
         })
     }
 
-    /// The statements that have been written.
-    fn into_statements(self) -> Statements {
-        let Builder {
-            alloc: _,
-            netlist: _,
-            delays: _,
-            uses: _,
-            within: _,
-            statements,
-            expressions: _expressions,
-            keys: _keys,
-            groups: _groups,
-            timed: _timed,
-        } = self;
-        statements
-    }
-
     /// The expression of a net whose gate is nested in the cell that reads it.
     fn take_expression(&mut self, place: usize) -> Option<Expression> {
         match self.expressions.get_mut(place) {
@@ -253,7 +252,7 @@ impl<'a> Builder<'a> {
     fn net(&mut self, place: usize) -> Expression {
         match self.take_expression(place) {
             Some(expression) => expression,
-            None => name_of(&mut self.statements, place),
+            None => name_of(self.statements, place),
         }
     }
 
@@ -292,7 +291,7 @@ impl<'a> Builder<'a> {
     /// Keeps the expression of a net, or writes it.
     fn put(&mut self, place: usize, expression: Expression, delay: Delay) {
         if !self.is_kept(place, &expression) {
-            return assign(&mut self.statements, place, &expression, delay);
+            return assign(self.statements, place, &expression, delay);
         }
         if let Some(kept) = self.expressions.get_mut(place) {
             *kept = Some(expression);
@@ -316,7 +315,7 @@ impl<'a> Builder<'a> {
                 bit: *enable,
                 is_high: !gate.is_low,
             };
-            assign_enabled(&mut self.statements, gate.output, &value, enable, delay);
+            assign_enabled(self.statements, gate.output, &value, enable, delay);
         }
         Ok(())
     }
@@ -344,7 +343,7 @@ impl<'a> Builder<'a> {
 
     /// The index of the process for the registers like this one.
     fn group(&mut self, register: &Register) -> Result<usize, AllocError> {
-        let conditions = conditions(&mut self.statements, register);
+        let conditions = conditions(self.statements, register);
         let key = conditions.key(self.alloc, register.style, register.conflict.is_some());
         let (place, is_new) = find_group(&mut self.keys, key)?;
         if is_new {
@@ -355,7 +354,7 @@ impl<'a> Builder<'a> {
 
     /// Adds a process for the registers like this one.
     fn add_group(&mut self, register: &Register, conditions: Conditions) -> Result<(), AllocError> {
-        let sensitivity = sensitivity(&mut self.statements, register);
+        let sensitivity = sensitivity(self.statements, register);
         self.statements.count_process();
         let process = Process::new(self.alloc, register.style, sensitivity, conditions);
         push(&mut self.groups, process)
@@ -459,7 +458,7 @@ impl<'a> Builder<'a> {
         computed: &Draft,
         initial: Option<Level>,
     ) -> Result<(), AllocError> {
-        let process = timed(&mut self.statements, place, timing, computed, initial)?;
+        let process = timed(self.statements, place, timing, computed, initial)?;
         push(&mut self.timed, process)
     }
 
@@ -473,7 +472,7 @@ impl<'a> Builder<'a> {
         if let Some(delay) = timing.only() {
             let (rise, fall) = (delay, delay);
             assign(
-                &mut self.statements,
+                self.statements,
                 gate.output,
                 &expression,
                 Delay { rise, fall },
@@ -486,15 +485,9 @@ impl<'a> Builder<'a> {
 
     /// The statements that compute the new value of a register.
     fn computed(&mut self, register: &Register) -> Result<Draft, AllocError> {
-        let conditions = conditions(&mut self.statements, register);
-        let list = Draft::new(self.alloc);
-        let mut process = Process::new(self.alloc, register.style, list, conditions);
-        compute_levels(&mut process, register);
+        let conditions = conditions(self.statements, register);
         let data = self.timed_data(register)?;
-        compute(self.alloc, &mut process.data, &data);
-        let mut text = Draft::new(self.alloc);
-        process.push_statements(self.alloc, &mut text);
-        Ok(text)
+        Ok(statements_of(self.alloc, register, conditions, &data))
     }
 
     /// Adds a register with the delays of its paths.
@@ -556,7 +549,13 @@ impl<'a> Builder<'a> {
         for process in self.groups.iter() {
             process.push(self.alloc, &mut self.statements.body);
         }
-        put_processes(&mut self.statements, self.timed.as_slice())
+        put_processes(self.statements, self.timed.as_slice())
+    }
+
+    /// Writes all cells.
+    fn put_all(&mut self) -> Result<(), AllocError> {
+        self.take_cells()?;
+        self.put_processes()
     }
 }
 
@@ -615,6 +614,21 @@ fn compute_levels(process: &mut Process, register: &Register) {
     }
 }
 
+/// The statements that compute the new value of a register with these data.
+fn statements_of(
+    alloc: Global,
+    register: &Register,
+    conditions: Conditions,
+    data: &Option<Expression>,
+) -> Draft {
+    let mut process = Process::new(alloc, register.style, Draft::new(alloc), conditions);
+    compute_levels(&mut process, register);
+    compute(alloc, &mut process.data, data);
+    let mut text = Draft::new(alloc);
+    process.push_statements(alloc, &mut text);
+    text
+}
+
 /// The value that a set gives, given that of the reset.
 fn level_of_set(value: Level) -> Level {
     if value == Level::One {
@@ -642,14 +656,12 @@ fn fill_conflict(process: &mut Process, register: &Register, target: &str, delay
 
 /// Writes the cells of a netlist, given the uses of its nets and which of them may be nested.
 pub fn put_cells(
-    statements: Statements,
+    statements: &mut Statements,
     netlist: &Netlist,
     delays: &[NamedDelay],
     uses: &Uses,
     within: &[bool],
-) -> Result<Statements, AllocError> {
+) -> Result<(), AllocError> {
     let mut builder = Builder::new(statements, netlist, delays, uses, within)?;
-    builder.take_cells()?;
-    builder.put_processes()?;
-    Ok(builder.into_statements())
+    builder.put_all()
 }

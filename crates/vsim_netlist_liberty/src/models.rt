@@ -279,7 +279,7 @@ pub(crate) fn entry_of(
         Err(Fault::Refused(told)) => {
             let mut text = Draft::of(alloc, file);
             text.push(": ");
-            text.push_draft(&told);
+            text.push_draft(told.as_ref());
             Ok(LibraryEntry::Refused(text.finish()?))
         }
     }

@@ -269,8 +269,8 @@ fn read_file(
     text: &[u8],
     corner: Corner,
     wants_checks: bool,
-) -> Result<(Delays, CheckList), Fault> {
-    let mut reader = Reader::new(alloc, text, corner);
+) -> Result<(Box<Delays>, CheckList), Fault> {
+    let mut reader = Reader::new(alloc, text, corner, Delays::new(alloc)?);
     reader.checks.is_wanted = wants_checks;
     match reader.take_file() {
         Ok(()) => Ok(reader.into_parts()),
@@ -279,7 +279,7 @@ fn read_file(
 }
 
 /// Reads a file, whose values are those of a corner.
-pub fn read_delay_file(alloc: Global, text: &[u8], corner: Corner) -> Result<Delays, Fault> {
+pub fn read_delay_file(alloc: Global, text: &[u8], corner: Corner) -> Result<Box<Delays>, Fault> {
     let (delays, _checks) = read_file(alloc, text, corner, false)?;
     Ok(delays)
 }
@@ -289,6 +289,6 @@ pub fn read_check_file(
     alloc: Global,
     text: &[u8],
     corner: Corner,
-) -> Result<(Delays, CheckList), Fault> {
+) -> Result<(Box<Delays>, CheckList), Fault> {
     read_file(alloc, text, corner, true)
 }

@@ -31,7 +31,7 @@ pub(crate) struct Reader<'a> {
     pub(crate) divider: char,
     /// The unit of times, as a power of ten of femtoseconds.
     pub(crate) scale: i64,
-    pub(crate) delays: Delays,
+    pub(crate) delays: Box<Delays>,
     pub(crate) checks: CheckList,
     /// The indices of conditions by their texts.
     pub(crate) conditions: HashMap<String, usize>,
@@ -89,15 +89,20 @@ pub(crate) fn deeper(depth: usize, token: Token<'_>) -> usize {
 }
 
 impl<'a> Reader<'a> {
-    /// A file of which nothing has been read.
-    pub(crate) fn new(alloc: Global, text: &'a [u8], corner: Corner) -> Reader<'a> {
+    /// A file of which nothing has been read, whose delays are added to these.
+    pub(crate) fn new(
+        alloc: Global,
+        text: &'a [u8],
+        corner: Corner,
+        delays: Box<Delays>,
+    ) -> Reader<'a> {
         Reader {
             alloc,
             tokens: tokens_of(text),
             corner,
             divider: '.',
             scale: 6,
-            delays: Delays::new(alloc),
+            delays,
             checks: CheckList::new(alloc),
             conditions: HashMap::new(alloc),
             kind: "",
@@ -111,7 +116,7 @@ impl<'a> Reader<'a> {
     }
 
     /// The delays and checks that have been read.
-    pub(crate) fn into_parts(self) -> (Delays, CheckList) {
+    pub(crate) fn into_parts(self) -> (Box<Delays>, CheckList) {
         let Reader {
             alloc: _,
             tokens: _,

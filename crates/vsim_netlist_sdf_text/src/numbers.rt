@@ -134,7 +134,7 @@ fn read_decimal(text: &str) -> Option<Decimal> {
     }
 }
 
-/// A number times ten, so many times.
+/// A number times a power of ten.
 fn raised(number: u64, power: i64) -> u64 {
     let mut number = number;
     for _ in 0..power.min(20) {
@@ -143,7 +143,7 @@ fn raised(number: u64, power: i64) -> u64 {
     number
 }
 
-/// A number by ten, so many times, rounded.
+/// A number by a power of ten, rounded.
 fn lowered(number: u64, power: i64) -> u64 {
     let mut number = number;
     for _ in 1..power.min(20) {

@@ -4,7 +4,7 @@ ghost use Rattle.std.specs.Prelude.{◌<◌, length, IfSome};
 
 use crate::clock::{Clock, Edges, is_multiple, later_changes};
 use crate::table::is_relayed;
-use crate::tables::Tables;
+use crate::tables::{Tables, add_of_steps, add_tables};
 use crate::waveforms::{
     push_changes, push_first, push_inversion, push_inverted, put_run, put_run_from_unknown,
     put_start,
@@ -369,21 +369,6 @@ fn put_added_clock(statements: &mut Statements, once: &mut Draft, tables: &mut T
     statements.body.push(";\n");
 }
 
-/// The table of the inputs that change in steps, with a clock that is added for it.
-fn stepped_tables(
-    statements: &mut Statements,
-    once: &mut Draft,
-    inputs: &[(usize, &[Change])],
-    hold: u64,
-) -> Result<Option<Tables>, AllocError> {
-    let (alloc, signals) = (statements.alloc, &statements.signals);
-    let mut tables = Tables::of_steps(alloc, signals, inputs)?;
-    if let Some(tables) = &mut tables {
-        put_added_clock(statements, once, tables, hold);
-    }
-    Ok(tables)
-}
-
 /// The inputs that are in no table.
 fn inputs_beside<'a>(
     alloc: Global,
@@ -411,24 +396,21 @@ fn place_with(tables: &[Tables], net: usize) -> Option<usize>
     None
 }
 
-/// The tables of the inputs that change with the first clock, one delta cycle after its edges; none
-/// if there is a hold time.
-fn clocked_tables(
+/// Adds the tables of the inputs that change with the first clock, one delta cycle after its edges;
+/// none if there is a hold time.
+fn add_clocked(
     statements: &Statements,
     nets: &[Driven<'_>],
     manner: Manner<'_>,
     inputs: &[(usize, &[Change])],
-) -> Result<Vec<Tables>, AllocError> {
-    let alloc = statements.alloc;
-    let mut found = Vec::new(alloc);
-    if manner.hold != 0 {
-        return Ok(found);
+    found: &mut Vec<Tables>,
+) -> Result<(), AllocError> {
+    match first_clock(nets, manner.end) {
+        Some(clock) if manner.hold == 0 => {
+            add_tables(statements.alloc, &statements.signals, clock, inputs, found)
+        }
+        _ => Ok(()),
     }
-    if let Some(clock) = first_clock(nets, manner.end) {
-        let tables = Tables::of(alloc, &statements.signals, clock, inputs)?;
-        push(&mut found, tables)?;
-    }
-    Ok(found)
 }
 
 /// The tables of the inputs that change with the first clock, and those of inputs that change in
@@ -439,16 +421,17 @@ fn tables(
     nets: &[Driven<'_>],
     manner: Manner<'_>,
 ) -> Result<Vec<Tables>, AllocError> {
-    if manner.has_paths {
-        return Ok(Vec::new(statements.alloc));
+    let mut found = Vec::new(statements.alloc);
+    if !manner.has_paths {
+        let inputs = table_inputs(statements.alloc, nets, manner.clocks)?;
+        add_clocked(statements, nets, manner, inputs.as_slice(), &mut found)?;
+        add_stepped(statements, once, inputs.as_slice(), manner.hold, &mut found)?;
     }
-    let inputs = table_inputs(statements.alloc, nets, manner.clocks)?;
-    let mut found = clocked_tables(statements, nets, manner, inputs.as_slice())?;
-    add_stepped(statements, once, inputs.as_slice(), manner.hold, &mut found)?;
     Ok(found)
 }
 
-/// Adds the table of those inputs that change in steps and are in no other one.
+/// Adds the table of those inputs that change in steps and are in no other one, with a clock that is
+/// added for it.
 fn add_stepped(
     statements: &mut Statements,
     once: &mut Draft,
@@ -457,9 +440,23 @@ fn add_stepped(
     found: &mut Vec<Tables>,
 ) -> Result<(), AllocError> {
     let others = inputs_beside(statements.alloc, inputs, found.as_slice())?;
-    match stepped_tables(statements, once, others.as_slice(), hold)? {
-        Some(tables) => push(found, tables),
-        None => Ok(()),
+    let (alloc, signals) = (statements.alloc, &statements.signals);
+    if add_of_steps(alloc, signals, others.as_slice(), found)? {
+        put_last_clock(statements, once, found, hold);
+    }
+    Ok(())
+}
+
+/// Writes the clock of the last tables.
+fn put_last_clock(
+    statements: &mut Statements,
+    once: &mut Draft,
+    found: &mut Vec<Tables>,
+    hold: u64,
+) {
+    let last = found.len().saturating_sub(1);
+    if let Some(tables) = found.get_mut(last) {
+        put_added_clock(statements, once, tables, hold);
     }
 }
 

@@ -6,7 +6,7 @@ use crate::steps::{clock_of_input, clock_of_steps};
 use crate::table::{Table, put_table};
 use crate::targets::{Levels, Targets};
 use std::alloc::{AllocError, Global};
-use vsim_netlist_design::Change;
+use vsim_netlist_design::{Change, push};
 use vsim_netlist_signals::{Signals, Statements};
 
 /// The bytes that a process takes for the counter of edges, less those of the additional signals
@@ -151,81 +151,105 @@ fn put_one(
     }
 }
 
+/// Adds the tables of the inputs that change with a clock, given by their nets and changes.
+pub(crate) fn add_tables(
+    alloc: Global,
+    signals: &Signals,
+    clock: Clock,
+    inputs: &[(usize, &[Change])],
+    found: &mut Vec<Tables>,
+) -> Result<(), AllocError> {
+    let mut tables = Tables::new(alloc, clock);
+    tables.fill(alloc, signals, inputs)?;
+    push(found, tables)
+}
+
+/// Adds the table of inputs that change at the rising edges of a clock that is to be added, if there
+/// is one, and returns whether there is one. There is none if waveforms are shorter.
+fn add_with_clock(
+    alloc: Global,
+    signals: &Signals,
+    clock: Option<Clock>,
+    inputs: &[(usize, &[Change])],
+    found: &mut Vec<Tables>,
+) -> Result<bool, AllocError> {
+    let Some(clock) = clock else {
+        return Ok(false);
+    };
+    let before = found.len();
+    add_tables(alloc, signals, clock, inputs, found)?;
+    let pays = match found.last() {
+        Some(tables) => tables.pay_with_clock(alloc, signals),
+        None => false,
+    };
+    if !pays {
+        found.truncate(before);
+    }
+    Ok(pays)
+}
+
+/// Adds the table of inputs that change in the steps of one of them, the first for which that is
+/// shorter than waveforms, and returns whether one is found soon.
+fn add_of_input(
+    alloc: Global,
+    signals: &Signals,
+    inputs: &[(usize, &[Change])],
+    found: &mut Vec<Tables>,
+) -> Result<bool, AllocError> {
+    let mut tried = 0usize;
+    for (_, changes) in inputs {
+        let clock = clock_of_input(inputs, changes);
+        if clock.is_none() {
+            continue;
+        }
+        if tried == TRIES {
+            break;
+        }
+        tried = tried.saturating_add(1);
+        if add_with_clock(alloc, signals, clock, inputs, found)? {
+            return Ok(true);
+        }
+    }
+    Ok(false)
+}
+
+/// Adds the table of inputs that change in steps, from time 0 on or from the first change of one of
+/// them, at the rising edges of a clock that is to be added, and returns whether there is one. There
+/// is none if waveforms are shorter.
+pub(crate) fn add_of_steps(
+    alloc: Global,
+    signals: &Signals,
+    inputs: &[(usize, &[Change])],
+    found: &mut Vec<Tables>,
+) -> Result<bool, AllocError> {
+    if add_with_clock(alloc, signals, clock_of_steps(inputs), inputs, found)? {
+        return Ok(true);
+    }
+    add_of_input(alloc, signals, inputs, found)
+}
+
 impl Tables {
-    /// The tables of the inputs that change with a clock, given by their nets and changes.
-    pub(crate) fn of(
-        alloc: Global,
-        signals: &Signals,
-        clock: Clock,
-        inputs: &[(usize, &[Change])],
-    ) -> Result<Tables, AllocError> {
-        let mut targets = Targets::new(alloc);
-        let rising = table_of(alloc, signals, &clock, inputs, true, &mut targets)?;
-        let falling = table_of(alloc, signals, &clock, inputs, false, &mut targets)?;
-        Ok(Tables {
+    /// Tables without inputs.
+    fn new(alloc: Global, clock: Clock) -> Tables {
+        Tables {
             clock,
-            rising,
-            falling,
-            targets,
-        })
-    }
-
-    /// The table of inputs that change at the rising edges of a clock that is to be added; `None` if
-    /// waveforms are shorter.
-    fn of_added(
-        alloc: Global,
-        signals: &Signals,
-        clock: Option<Clock>,
-        inputs: &[(usize, &[Change])],
-    ) -> Result<Option<Tables>, AllocError> {
-        let Some(clock) = clock else {
-            return Ok(None);
-        };
-        let tables = Tables::of(alloc, signals, clock, inputs)?;
-        Ok(if tables.pay_with_clock(alloc, signals) {
-            Some(tables)
-        } else {
-            None
-        })
-    }
-
-    /// The table of inputs that change in the steps of one of them, the first for which that is
-    /// shorter than waveforms, if one is found soon.
-    fn of_input(
-        alloc: Global,
-        signals: &Signals,
-        inputs: &[(usize, &[Change])],
-    ) -> Result<Option<Tables>, AllocError> {
-        let mut tried = 0usize;
-        for (_, changes) in inputs {
-            let clock = clock_of_input(inputs, changes);
-            if clock.is_none() {
-                continue;
-            }
-            if tried == TRIES {
-                break;
-            }
-            tried = tried.saturating_add(1);
-            let tables = Tables::of_added(alloc, signals, clock, inputs)?;
-            if tables.is_some() {
-                return Ok(tables);
-            }
+            rising: None,
+            falling: None,
+            targets: Targets::new(alloc),
         }
-        Ok(None)
     }
 
-    /// The table of inputs that change in steps, from time 0 on or from the first change of one of
-    /// them, at the rising edges of a clock that is to be added; `None` if waveforms are shorter.
-    pub(crate) fn of_steps(
+    /// Makes the tables of the inputs that change with the clock, given by their nets and changes.
+    fn fill(
+        &mut self,
         alloc: Global,
         signals: &Signals,
         inputs: &[(usize, &[Change])],
-    ) -> Result<Option<Tables>, AllocError> {
-        let tables = Tables::of_added(alloc, signals, clock_of_steps(inputs), inputs)?;
-        if tables.is_some() {
-            return Ok(tables);
-        }
-        Tables::of_input(alloc, signals, inputs)
+    ) -> Result<(), AllocError> {
+        let clock = self.clock;
+        self.rising = table_of(alloc, signals, &clock, inputs, true, &mut self.targets)?;
+        self.falling = table_of(alloc, signals, &clock, inputs, false, &mut self.targets)?;
+        Ok(())
     }
 
     /// Whether the table of the rising edges is worth a clock that is added for it, and has changes
