@@ -61,11 +61,11 @@ BODIES = [
     Body("a result updates the nets", SIMULATION, "simulation.rt", "simulation::Simulation::deposit", "invariant", 1, [
         ("        put_results(&mut contents.state, number, results);",
          "        put_results(&mut contents.state, number, results);\n"
-         "        contents.state.update(contents.time);")]),
+         "        contents.state.update(contents.time, contents.delta, &mut contents.log, contents.totals.as_mut_slice());")]),
     Body("a process that is executed in place updates the nets", SIMULATION, "simulation.rt", "simulation::execute", "step", 1, [
         ("        &mut compiled.frame,\n    )\n}",
          "        &mut compiled.frame,\n    )?;\n"
-         "    contents.state.update(contents.time);\n"
+         "    contents.state.update(contents.time, contents.delta, &mut contents.log, contents.totals.as_mut_slice());\n"
          "    Ok(())\n}")]),
     Body("a waiting process is forgotten over a delta cycle", SIMULATION, "simulation.rt", "simulation::leave", "left", 1, [
         ("        Phase::NonPostponed => {}", "        Phase::NonPostponed => waiting.clear(),")]),
