@@ -75,7 +75,7 @@ impl Driver {
         Driver {
             value,
             alloc,
-            pending: Pending::Nothing,
+            pending: Pending::Few(None),
         }
     }
 
@@ -100,9 +100,9 @@ impl Driver {
         ensures { result ≡ next_of self.now.pending }
     {
         match &self.pending {
-            Pending::Nothing => None,
-            Pending::One(only) => Some(only.0),
-            _ => first_time(self.pending.as_slice()),
+            Pending::Few(None) => None,
+            Pending::Few(Some(only)) => Some(only.0),
+            Pending::Many(stored) => first_time(stored.as_slice()),
         }
     }
 
@@ -115,13 +115,16 @@ impl Driver {
         ensures later { IsTrue result → RisesFrom (suc time) self.new.pending }
         ensures past { RisesFrom time self.old.pending → RisesFrom (suc time) self.new.pending }
     {
-        if let Pending::One(only) = &self.pending {
-            let (due, value) = *only;
+        if let Pending::Few(few) = &mut self.pending {
+            let (due, value) = match few {
+                None => return false,
+                Some(only) => *only,
+            };
             if due != time {
                 return false;
             }
             self.value = value;
-            self.pending = Pending::Nothing;
+            *few = None;
             return true;
         }
         self.take_first(time)
@@ -178,11 +181,11 @@ impl Driver {
         ensures err { OnErr result (self.new ≡ self.old) }
         ensures later { RisesFrom now self.new.pending }
     {
-        if self.pending.is_allocated() {
-            return self.edit(now, Delay::Inertial { reject: 0 }, &[(0, value)]);
+        if let Pending::Few(_) = &self.pending {
+            self.pending.set((now, value));
+            return Ok(());
         }
-        self.pending = Pending::One((now, value));
-        Ok(())
+        self.edit(now, Delay::Inertial { reject: 0 }, &[(0, value)])
     }
 
     /// Carries out a signal assignment at the time `now` (IEEE 1076-2008, 10.5.2.2). Each element
@@ -210,19 +213,19 @@ impl Driver {
         if let [only] = elements {
             let new = (now + only.0, only.1);
             match &self.pending {
-                Pending::Nothing => {
-                    self.pending = Pending::One(new);
+                Pending::Few(None) => {
+                    self.pending.set(new);
                     return Ok(());
                 }
-                Pending::One(old) => {
+                Pending::Few(Some(old)) => {
                     if keeps(*old, delay, new) {
                         self.pending = Pending::Many(Stored::of_two(self.alloc, *old, new));
                         return Ok(());
                     }
-                    self.pending = Pending::One(new);
+                    self.pending.set(new);
                     return Ok(());
                 }
-                _ => {}
+                Pending::Many(_) => {}
             }
         }
         self.pending.edit(self.alloc, now, delay, elements)

@@ -14,12 +14,12 @@ use crate::stored::Stored;
 use sim_standard::Delay;
 use std::alloc::{AllocError, Global};
 
-/// Pending transactions, earliest first. `Many` holds up to two in the driver itself and more in an
-/// allocation. A driver that has once had more than two keeps that room.
+/// Pending transactions, earliest first: at most one, or those of a list. `Many` holds up to two in
+/// the driver itself and more in an allocation. A driver that has once had more than two keeps that
+/// room.
 #[derive(Drop)]
 pub(crate) enum Pending {
-    Nothing,
-    One(Transaction),
+    Few(Option<Transaction>),
     Many(Stored),
 }
 
@@ -29,8 +29,8 @@ impl Pending {
         ensures { result.now ≡ transactions_of self.now }
     {
         match self {
-            Pending::Nothing => &[],
-            Pending::One(only) => std::slice::from_ref(only),
+            Pending::Few(None) => &[],
+            Pending::Few(Some(only)) => std::slice::from_ref(only),
             Pending::Many(stored) => stored.as_slice(),
         }
     }
@@ -39,8 +39,19 @@ impl Pending {
     /// depends on it.
     pub(crate) fn is_allocated(&self) -> bool {
         match self {
-            Pending::Nothing | Pending::One(_) => false,
+            Pending::Few(_) => false,
             Pending::Many(stored) => stored.is_allocated(),
+        }
+    }
+
+    /// Makes this the only transaction.
+    #[inline(always)]
+    pub(crate) fn set(&mut self, only: Transaction)
+        ensures { transactions_of self.new ≡ only ∷ [] }
+    {
+        match self {
+            Pending::Few(few) => *few = Some(only),
+            Pending::Many(_) => *self = Pending::Few(Some(only)),
         }
     }
 
@@ -53,8 +64,8 @@ impl Pending {
         ensures in_place { length transactions.now ≤ IN_PLACE → IsOk result }
     {
         match transactions {
-            [] => Ok(Pending::Nothing),
-            [only] => Ok(Pending::One(*only)),
+            [] => Ok(Pending::Few(None)),
+            [only] => Ok(Pending::Few(Some(*only))),
             _ => Ok(Pending::Many(Stored::copy_of(alloc, transactions)?)),
         }
     }
@@ -86,7 +97,7 @@ impl Pending {
         if kept.back < kept.end {
             return Pending::Many(Stored::of_two(alloc, few[kept.back], first));
         }
-        Pending::One(first)
+        Pending::Few(Some(first))
     }
 
     /// Removes the first transaction.
@@ -95,13 +106,13 @@ impl Pending {
         ensures { transactions_of self.new ≡ drop 1 (transactions_of self.old) }
     {
         match self {
-            Pending::Nothing | Pending::One(_) => *self = Pending::Nothing,
+            Pending::Few(few) => *few = None,
             Pending::Many(stored) => {
                 stored.remove_first();
                 if !stored.is_allocated() {
                     match stored.as_slice() {
-                        [] => *self = Pending::Nothing,
-                        [only] => *self = Pending::One(*only),
+                        [] => *self = Pending::Few(None),
+                        [only] => *self = Pending::Few(Some(*only)),
                         _ => {}
                     }
                 }

@@ -13,10 +13,10 @@ use vsim_netlist_design::{
 };
 use vsim_waves_listing::{MapBit, SourceMap};
 
-/// What helps if the names of cells or nets differ.
+/// Advice for a design whose files name cells or nets differently.
 const ADVICE: &str = ": after rename -enumerate, write_json and write_verilog give the same names";
 
-/// What checks are made signals' checks from.
+/// The files from which the checks of signals are made.
 #[derive(Clone, Copy)]
 struct Files<'a> {
     alloc: Global,

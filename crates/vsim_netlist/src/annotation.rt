@@ -5,7 +5,7 @@ use vsim_netlist_design::{
     DelayEntry, DelayList, Delayed, Delays, Draft, Fault, Netlist, fault_at,
 };
 
-/// What helps if the names of cells differ.
+/// Advice for files that name cells differently.
 const ADVICE: &str = ": after rename -enumerate, write_json and write_verilog give the same names";
 
 /// The refusal of an instance that the netlist has not.

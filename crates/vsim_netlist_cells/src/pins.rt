@@ -78,7 +78,7 @@ impl Connections {
         }
     }
 
-    /// Notes the index of the last cell by its name. Of several with one name the last is found.
+    /// Notes the index of the last cell by its name. A name that several have leads to the last.
     fn note(&mut self, name: &String) -> Result<(), AllocError> {
         let name = name.clone()?;
         let place = self.instances.len().saturating_sub(1);
