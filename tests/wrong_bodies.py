@@ -31,11 +31,11 @@ BODIES = [
     Body("a result is dropped", STORE, "store.rt", "store::WaveStore::deposit", "ok", 1, [
         ("                self.simulation.deposit(done);", "                let _dropped = done;")]),
     Body("a cycle without an event is passed over", STORE, "store.rt", "store::WaveStore::go_to", "ok", 1, [
-        ("        self.simulation.go_on(time)?;",
-         "        let events = self.simulation.events();\n"
-         "        self.simulation.go_on(time)?;\n"
-         "        if self.simulation.events() == events {\n"
-         "            self.simulation.go_on(time)?;\n"
+        ("        self.simulation.go_on(time, &mut self.log)?;",
+         "        let changes = self.log.count();\n"
+         "        self.simulation.go_on(time, &mut self.log)?;\n"
+         "        if self.log.count() == changes {\n"
+         "            self.simulation.go_on(time, &mut self.log)?;\n"
          "        }")]),
     Body("a run has one cycle more than its limit", STORE, "store.rt", "store::WaveStore::go_to", "ok", 2, [
         ("        if self.simulation.cycles() == self.limit as usize {", "        if self.simulation.cycles() > self.limit as usize {")]),
@@ -46,27 +46,29 @@ BODIES = [
     Body("the run begins again", STORE, "store.rt", "store::WaveStore::advance", "ok", 1, [
         ("        self.go_on()\n    }",
          "        let design = self.simulation.design().try_copy()?;\n"
-         "        let Ok(begun) = Simulation::begin(_alloc, design) else {\n"
+         "        let Ok((begun, log)) = Simulation::begin(_alloc, design) else {\n"
          "            return Err(StoreError::Memory);\n"
          "        };\n"
          "        self.simulation = begun;\n"
+         "        self.log = log;\n"
          "        Ok(Step::Next)\n    }")]),
     Body("the last record is given twice", STORE, "store.rt", "store::WaveStore::records_since", "ok", 1, [
-        ("        let found = self.simulation.records_from(alloc, number)?;",
-         "        let mut found = self.simulation.records_from(alloc, number)?;\n"
-         "        let mut last = self.simulation.records_from(alloc, self.simulation.cycles())?;\n"
+        ("        let found = records_from(alloc, &self.log, number)?;",
+         "        let mut found = records_from(alloc, &self.log, number)?;\n"
+         "        let mut last = records_from(alloc, &self.log, self.simulation.cycles())?;\n"
          "        if let Some(record) = last.pop() {\n"
          "            let _twice = found.push(record);\n"
          "        }")]),
     Body("a result updates the nets", SIMULATION, "simulation.rt", "simulation::Simulation::deposit", "invariant", 1, [
         ("        put_results(&mut contents.state, number, results);",
          "        put_results(&mut contents.state, number, results);\n"
-         "        contents.state.update(contents.time, contents.delta, &mut contents.log, contents.totals.as_mut_slice());")]),
-    Body("a process that is executed in place updates the nets", SIMULATION, "simulation.rt", "simulation::execute", "step", 1, [
-        ("        &mut compiled.frame,\n    )\n}",
-         "        &mut compiled.frame,\n    )?;\n"
-         "    contents.state.update(contents.time, contents.delta, &mut contents.log, contents.totals.as_mut_slice());\n"
-         "    Ok(())\n}")]),
+         "        let mut log = Log::new(*contents.totals.allocator());\n"
+         "        contents.state.update(contents.time, contents.delta, &mut log, contents.totals.as_mut_slice());")]),
+    Body("a process that is executed in place updates the nets", SIMULATION, "simulation.rt", "simulation::execute_unmarked", "of", 1, [
+        ("        numbers.as_slice(),\n        contents.time,\n        &compiled.codes,\n        &mut compiled.frame,\n    )?;",
+         "        numbers.as_slice(),\n        contents.time,\n        &compiled.codes,\n        &mut compiled.frame,\n    )?;\n"
+         "    let mut log = Log::new(alloc);\n"
+         "    contents.state.update(contents.time, contents.delta, &mut log, contents.totals.as_mut_slice());")]),
     Body("a waiting process is forgotten over a delta cycle", SIMULATION, "simulation.rt", "simulation::leave", "left", 1, [
         ("        Phase::NonPostponed => {}", "        Phase::NonPostponed => waiting.clear(),")]),
     Body("a delta cycle of a postponed process is carried out", SIMULATION, "simulation.rt", "simulation::upcoming", "", 1, [

@@ -1,10 +1,11 @@
 -- The processes of a range, executed one after another.
-use Rattle.std.proofs.Common.{ℕ, zero, suc, ◌+◌, ◌-◌, ◌<◌, ◌≤◌, ◌≡◌, ◌≢◌, Bool, true, false, List}
+use Rattle.std.proofs.Common.{ℕ, zero, suc, ◌+◌, ◌-◌, ◌<◌, ◌≤◌, ◌≡◌, ◌≢◌, ◌||◌, eqb, Bool, true, false, if◌then◌else◌, List}
 use Rattle.std.proofs.Common.{[], ◌∷◌, length, set, refl, ap, sym, ◌∙◌, subst, arith}
-use Rattle.std.proofs.Math.Decide.{dec_lt}
+use Rattle.std.proofs.lemmas.Bool.Decides.{nat_tests}
 use Rattle.std.specs.List.{All}
 use Rattle.std.proofs.lemmas.List.{get_or-set_same, get_or-set_other, length-set}
 use Rattle.std.proofs.lemmas.List.Elements.{All-get_or}
+use Rattle.sim_flat_design.specs.Bodies.{Body}
 use Rattle.sim_flat_design.specs.Designs.{Design}
 use Rattle.sim_flat_design.specs.Processes.{Process, IsProcess}
 use Rattle.sim_exec_statements.specs.Ready.{IsReady}
@@ -16,13 +17,13 @@ use Rattle.sim_standard.specs.Together.{merged}
 use Rattle.sim_standard.proofs.Names.{no_process, nothing_owned}
 use Rattle.sim_standard.proofs.Frame.{same_owned_after}
 use Rattle.sim_standard.proofs.Together.{merged-out}
-use Rattle.sim_standard.proofs.Numbers.{counted, ranged}
+use Rattle.sim_standard.specs.Orders.{is_among, NoRepeats}
+use Rattle.sim_standard.proofs.Numbers.{counted, counted-in, counted-once, ranged}
 use Rattle.sim_store_share.specs.InTurn.{AreExecuted, IsExecutable, after_one, left_by, nets_in, process_in}
 use Rattle.sim_store_share.specs.declared.reading.Reading.{Reading}
 use Rattle.sim_store_simulation.specs.Simulation.{Simulation, is_due, reached}
-use Rattle.sim_store_simulation.proofs.Along.{first-of, none-of}
 use Rattle.sim_store.specs.Handing.{PhaseInput, IsPhaseInput, IsRange, completed, at_input, due_from, result_in}
-use Rattle.sim_store.proofs.Places.{counted-within}
+use Rattle.sim_store.proofs.Places.{among-within, counted-within}
 
 -- a process of the set owns its result
 pub merged-in : (f : ℕ → Bool) (r : ℕ → Owned) (i p n : ℕ) (os : List Owned) → n ≡ i + p → f n ≡ true → p < length os
@@ -35,120 +36,12 @@ merged-in f r i zero n (o ∷ os) q is lt =
     rw e (ap r at)
 merged-in f r i (suc p) n (o ∷ os) q is lt = merged-in f r (suc i) p n os (omega arith) is (omega (arith, lt))
 
--- No number from one on and below another passes the test.
-abbrev pub NoneBetween : (ℕ → Bool) → ℕ → ℕ → Type 0
-NoneBetween test from to = (p : ℕ) → from ≤ p → p < to → test p ≡ false
-
--- It is the first number from one on and below another that passes the test.
-pub record IsNextBelow (test : ℕ → Bool) (from to n : ℕ) : Type 0 where
-  pub further : from ≤ n
-  pub below : n < to
-  pub passes : test n ≡ true
-  pub first : (p : ℕ) → from ≤ p → p < n → test p ≡ false
-
 -- A due process owns its result once all have been executed, the others what they owned.
 pub completed-due : (h : Simulation) (p : ℕ) → is_due h p ≡ true → p < length (reached h).owned → owned_at (completed h).owned p ≡ result_in h p
 completed-due h p is lt = merged-in (is_due h) (result_in h) 0 p p (reached h).owned (omega arith) is lt
 
 pub completed-other : (h : Simulation) (p : ℕ) → is_due h p ≡ false → owned_at (completed h).owned p ≡ owned_at (reached h).owned p
 completed-other h p is = merged-out (is_due h) (result_in h) 0 p p (reached h).owned (omega arith) is
-
--- The processes of a range that are below a number have been executed.
-pub record IsPartly (h : Simulation) (from next : ℕ) (owned : List Owned) : Type 0 where
-  pub within : from + length owned ≤ length h.design.processes
-  pub begun : from ≤ next
-  pub done : (i : ℕ) → i < length owned → from + i < next → owned_at owned i ≡ owned_at (completed h).owned (from + i)
-  pub left : (i : ℕ) → i < length owned → next ≤ from + i → owned_at owned i ≡ owned_at (reached h).owned (from + i)
-  pub ready : (i : ℕ) → i < length owned → IsReady (process_at h.design.processes (from + i)).body (reached h).time (owned_at owned i)
-
-module _ {h : Simulation} {from : ℕ} {owned : List Owned} where
-  pub partly-first : IsRange h (reached h).owned from owned → IsPartly h from from owned
-  partly-first r = record {
-    within = r.within;
-    begun = omega arith;
-    done = λ i lt below. absurd (omega (arith, below));
-    left = λ i lt above. r.owned_are i lt;
-    ready = r.ready;
-  }
-
-  -- if none of those left is due
-  pub partly-last : (next to : ℕ) → to ≡ from + length owned → IsPartly h from next owned → NoneBetween (is_due h) next to
-      → IsRange h (completed h).owned from owned
-  partly-last next to et w none = record {
-    within = w.within;
-    owned_are = λ i lt. elim (dec_lt (from + i) next) [
-      | yes below ↦ w.done i lt below
-      | no above ↦ w.left i lt (omega (arith, above)) ∙ sym (completed-other h (from + i) (none (from + i) (omega (arith, above)) (omega (arith, lt, et))))
-    ];
-    ready = w.ready;
-  }
-
-  -- the next due process has been executed
-  pub partly-more : (next to n : ℕ) (owned' : List Owned)
-      → to ≡ from + length owned → IsPartly h from next owned → IsNextBelow (is_due h) next to n
-      → length (reached h).owned ≡ length h.design.processes
-      → owned' ≡ set owned (n - from) (result_in h n)
-      → IsReady (process_at h.design.processes n).body (reached h).time (owned_at owned' (n - from))
-      → IsPartly h from (n + 1) owned'
-  partly-more next to n owned' et w is all eo ready = record {
-    within = omega (arith, long, w.within);
-    begun = omega (arith, w.begun, is.further);
-    done = λ i lt below. at_done i (omega (arith, lt, long)) below;
-    left = λ i lt above. at_left i (omega (arith, lt, long)) above;
-    ready = λ i lt. at_ready i (omega (arith, lt, long));
-  }
-    where
-      own : Owned
-      own = result_in h n
-
-      long : length owned' ≡ length owned
-      long = ap length eo ∙ length-set owned (n - from) own
-
-      other : (i : ℕ) → i ≢ n - from → owned_at owned' i ≡ owned_at owned i
-      other i apart = ap (λ (os : List Owned). owned_at os i) eo ∙ get_or-set_other owned (n - from) i own nothing_owned apart
-
-      inside : n - from < length owned
-      inside = omega (arith, is.below, et, w.begun, is.further)
-
-      here : owned_at owned' (n - from) ≡ own
-      here = ap (λ (os : List Owned). owned_at os (n - from)) eo ∙ get_or-set_same owned (n - from) own nothing_owned inside
-
-      is_place : from + (n - from) ≡ n
-      is_place = omega (arith, w.begun, is.further)
-
-      result_is : owned_at (completed h).owned n ≡ own
-      result_is = completed-due h n is.passes (omega (arith, all, w.within, inside, w.begun, is.further))
-
-      at_done : (i : ℕ) → i < length owned → from + i < n + 1 → owned_at owned' i ≡ owned_at (completed h).owned (from + i)
-      at_done i lt below = elim (dec_lt (from + i) n) [
-        | yes under ↦ elim (dec_lt (from + i) next) [
-          | yes early ↦ other i (omega (arith, under)) ∙ w.done i lt early
-          | no late ↦
-              other i (omega (arith, under)) ∙ (w.left i lt (omega (arith, late))
-              ∙ sym (completed-other h (from + i) (is.first (from + i) (omega (arith, late)) under)))
-        ]
-        | no over ↦
-            let same : i ≡ n - from = omega (arith, below, over) in
-            let there : from + i ≡ n = omega (arith, below, over) in
-            ap (owned_at owned') same ∙ (here ∙ (sym result_is ∙ ap (owned_at (completed h).owned) (sym there)))
-      ]
-
-      at_left : (i : ℕ) → i < length owned → n + 1 ≤ from + i → owned_at owned' i ≡ owned_at (reached h).owned (from + i)
-      at_left i lt above = other i (omega (arith, above)) ∙ w.left i lt (omega (arith, above, is.further))
-
-      at_ready : (i : ℕ) → i < length owned → IsReady (process_at h.design.processes (from + i)).body (reached h).time (owned_at owned' i)
-      at_ready i lt = elim (dec_lt (from + i) n) [
-        | yes under ↦ subst (IsReady (process_at h.design.processes (from + i)).body (reached h).time) (sym (other i (omega (arith, under)))) (w.ready i lt)
-        | no over ↦ elim (dec_lt n (from + i)) [
-          | yes beyond ↦
-              subst (IsReady (process_at h.design.processes (from + i)).body (reached h).time) (sym (other i (omega (arith, beyond)))) (w.ready i lt)
-          | no equal ↦
-              let same : n - from ≡ i = omega (arith, over, equal) in
-              let there : n ≡ from + i = omega (arith, over, equal) in
-              subst (λ (k : ℕ). IsReady (process_at h.design.processes k).body (reached h).time (owned_at owned' i)) there
-              (subst (IsReady (process_at h.design.processes n).body (reached h).time) (ap (owned_at owned') same) ready)
-        ]
-      ]
 
 -- executing a process as it is at the beginning of the phase leaves its result
 pub result-executed : (h : Simulation) (n time : ℕ) (own : Owned) → All IsProcess h.design.processes → n < length h.design.processes
@@ -196,43 +89,77 @@ module _ {design own : Design} {f : PhaseInput} (i : IsPhaseInput design own f) 
             (subst (λ (k : ℕ). IsReady (process_at design.processes k).body (reached h).time (owned_at owned (n - r.first))) at ready));
       }))
 
-  -- those from a number on have been executed, and those before it were
-  rest-executed : (numbers : List ℕ) (next count : ℕ) (old new : List Owned) → IsPartly (at_input design f) r.first next old
-      → next + count ≡ r.first + length old → numbers ≡ counted (is_due (at_input design f)) next count → AreExecuted r numbers old new
-      → IsRange (at_input design f) (completed (at_input design f)).owned r.first new
-  rest-executed [] next count old new w end is e =
-      let h = at_input design f in
-      subst (λ (os : List Owned). IsRange h (completed h).owned r.first os) (sym e)
-      (partly-last next (r.first + length old) refl w (λ p ge lt. none-of (is_due h) next count (sym is) p ge (omega (arith, lt, end))))
-  rest-executed (n ∷ ns) next count old new w end is e =
-      let h = at_input design f in
-      let g = first-of (is_due h) next count n ns (sym is) in
-      let begun : next ≤ n = g.next.further in
-      let first : r.first ≤ next = w.begun in
-      let place = n - r.first in
-      let inside : place < length old = omega (arith, g.below, end, begun, first) in
-      let at : r.first + place ≡ n = omega (arith, begun, first) in
-      let owns : owned_at old place ≡ owned_at (reached h).owned n =
-      w.left place inside (omega (arith, begun, at)) ∙ ap (owned_at (reached h).owned) at in
-      let lt : n < length design.processes = omega (arith, inside, at, w.within) in
-      let left : left_by r n (owned_at old place) ≡ result_in h n =
-      executed-is h n r.time (owned_at old place) (nets_in r) (process_in r n) i.processes lt same-time owns en (same-process n) in
-      let after = after_one r old n in
-      let ready : IsReady (process_at design.processes n).body (reached h).time (owned_at after place) =
-      subst (λ (t : ℕ). IsReady (process_at design.processes n).body t (owned_at after place)) same-time
-      (subst (λ (q : Process). IsReady q.body r.time (owned_at after place)) (same-process n) e.0) in
-      let more : IsPartly h r.first (n + 1) after = partly-more next (r.first + length old) n after refl w (record {
-        further = begun;
-        below = omega (arith, g.below, end);
-        passes = g.next.passes;
-        first = g.next.first;
-      }) i.all_own (ap (set old place) left) ready in
-      let long : length after ≡ length old = length-set old place (left_by r n (owned_at old place)) in
-      rest-executed ns (n + 1) (next + count - (n + 1)) after new more (omega (arith, g.below, end, long)) g.rest_is e.1
+  -- one process has been executed, and no other owns something else
+  one-executed : (n k : ℕ) (old : List Owned) (ns : List ℕ) → r.first ≤ n → n < r.first + length old → is_among ns n ≡ false
+      → (b : Bool) → eqb n (r.first + k) ≡ b
+      → (if is_among ns (r.first + k) then left_by r (r.first + k) (owned_at (after_one r old n) k) else owned_at (after_one r old n) k)
+      ≡ (if b || is_among ns (r.first + k) then left_by r (r.first + k) (owned_at old k) else owned_at old k)
+  one-executed n k old ns from below out true q =
+      let same : n ≡ r.first + k = grind (arith, nat_tests) in
+      let at : n - r.first ≡ k = omega (arith, same) in
+      let own : Owned = left_by r n (owned_at old k) in
+      rw (ap (is_among ns) (sym same) ∙ out)
+      (ap (λ (m : ℕ). owned_at (set old m (left_by r n (owned_at old m))) k) at
+      ∙ (get_or-set_same old k own nothing_owned (omega (arith, at, from, below)) ∙ ap (λ (m : ℕ). left_by r m (owned_at old k)) same))
+  one-executed n k old ns from below out false q =
+      let other : n ≢ r.first + k = grind (arith, nat_tests) in
+      let apart : k ≢ n - r.first = λ e. other (omega (arith, e, from)) in
+      let own : Owned = left_by r n (owned_at old (n - r.first)) in
+      ap (λ (o : Owned). if is_among ns (r.first + k) then left_by r (r.first + k) o else o)
+      (get_or-set_other old (n - r.first) k own nothing_owned apart)
+
+  -- each of some has been executed
+  executed-each : (numbers : List ℕ) (old new : List Owned) → NoRepeats numbers
+      → ((n : ℕ) → is_among numbers n ≡ true → (r.first ≤ n) × (n < r.first + length old)) → AreExecuted r numbers old new → (k : ℕ)
+      → owned_at new k ≡ (if is_among numbers (r.first + k) then left_by r (r.first + k) (owned_at old k) else owned_at old k)
+  executed-each [] old new once within e k = ap (λ (os : List Owned). owned_at os k) e
+  executed-each (n ∷ ns) old new once within e k =
+      let here : eqb n n ≡ true = grind (arith, nat_tests) in
+      let there = within n (ap (λ (b : Bool). b || is_among ns n) here) in
+      let long = length-set old (n - r.first) (left_by r n (owned_at old (n - r.first))) in
+      executed-each ns (after_one r old n) new once.1
+      (λ m a. let w = within m (later (eqb n m) (is_among ns m) a) in (w.0, omega (arith, w.1, long))) e.1 k
+      ∙ one-executed n k old ns there.0 there.1 once.0 (eqb n (r.first + k)) refl
+    where
+      later : (a b : Bool) → b ≡ true → (a || b) ≡ true
+      later true b e = refl
+      later false b e = e
 
   pub range-executed : (numbers : List ℕ) (old new : List Owned) → numbers ≡ due_from (at_input design f) r.first (length old)
-      → IsRange (at_input design f) (reached (at_input design f)).owned r.first old → AreExecuted r numbers old new
+      → IsRange (at_input design f) (reached (at_input design f)).owned r.first old → length new ≡ length old
+      → ((p : ℕ) (body : Body) → IsReady body r.time (owned_at old p) → IsReady body r.time (owned_at new p)) → AreExecuted r numbers old new
       → IsRange (at_input design f) (completed (at_input design f)).owned r.first new
-  range-executed numbers old new is w e =
-      let h = at_input design f in
-      rest-executed numbers r.first (length old) old new (partly-first w) refl (is ∙ ranged (is_due h) r.first (length old)) e
+  range-executed numbers old new is w sized ready e = record {
+    within = omega (arith, w.within, sized);
+    owned_are = λ k lt. each k ∙ go k (omega (arith, lt, sized)) (is_due (at_input design f) (r.first + k)) refl;
+    ready = λ k lt.
+        let body = (process_at design.processes (r.first + k)).body in
+        subst (λ (t : ℕ). IsReady body t (owned_at new k)) same-time
+        (ready k body (subst (λ (t : ℕ). IsReady body t (owned_at old k)) (sym same-time) (w.ready k (omega (arith, lt, sized)))));
+  }
+    where
+      each : (k : ℕ) → owned_at new k
+          ≡ (if is_among (counted (is_due (at_input design f)) r.first (length old)) (r.first + k)
+          then left_by r (r.first + k) (owned_at old k) else owned_at old k)
+      each =
+          executed-each (counted (is_due (at_input design f)) r.first (length old)) old new (counted-once (is_due (at_input design f)) r.first (length old))
+          (among-within (is_due (at_input design f)) r.first (length old))
+          (subst (λ (ns : List ℕ). AreExecuted r ns old new) (is ∙ ranged (is_due (at_input design f)) r.first (length old)) e)
+
+      go : (k : ℕ) → k < length old → (b : Bool) → is_due (at_input design f) (r.first + k) ≡ b
+          → (if is_among (counted (is_due (at_input design f)) r.first (length old)) (r.first + k)
+          then left_by r (r.first + k) (owned_at old k) else owned_at old k)
+          ≡ owned_at (completed (at_input design f)).owned (r.first + k)
+      go k lt b q =
+          rw (counted-in (is_due (at_input design f)) r.first (length old) (r.first + k) (omega arith) (omega (arith, lt)) ∙ q) (by b q)
+        where
+          below : r.first + k < length design.processes
+          below = omega (arith, lt, w.within)
+
+          by : (b : Bool) → is_due (at_input design f) (r.first + k) ≡ b
+              → (if b then left_by r (r.first + k) (owned_at old k) else owned_at old k) ≡ owned_at (completed (at_input design f)).owned (r.first + k)
+          by true q =
+              executed-is (at_input design f) (r.first + k) r.time (owned_at old k) (nets_in r) (process_in r (r.first + k)) i.processes below same-time
+              (w.owned_are k lt) en (same-process (r.first + k))
+              ∙ sym (completed-due (at_input design f) (r.first + k) q (omega (arith, below, i.all_own)))
+          by false q = w.owned_are k lt ∙ sym (completed-other (at_input design f) (r.first + k) q)

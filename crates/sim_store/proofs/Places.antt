@@ -1,6 +1,6 @@
 -- The due processes in a range of numbers, as a part of the list of all.
-use Rattle.std.proofs.Common.{ℕ, zero, suc, ◌+◌, ◌-◌, ◌<◌, ◌≤◌, ◌≡◌, ◌++◌, Bool, true, false, if◌then◌else◌, List, ◌∷◌, length, get_or, take, drop}
-use Rattle.std.proofs.Common.{Ok, Err, ap, sym, ◌∙◌, subst, arith, append_assoc, length-append}
+use Rattle.std.proofs.Common.{ℕ, zero, suc, ◌+◌, ◌-◌, ◌<◌, ◌≤◌, ◌≡◌, ◌++◌, ◌||◌, eqb, Bool, true, false, if◌then◌else◌, List, ◌∷◌, length, get_or, take, drop}
+use Rattle.std.proofs.Common.{Ok, Err, refl, ap, sym, ◌∙◌, subst, arith, append_assoc, length-append}
 use Rattle.std.proofs.Math.Decide.{dec_lt}
 use Rattle.std.proofs.Math.Seq.{drop-append_seam, take-append_seam}
 use Rattle.std.proofs.lemmas.List.{get_or-append-add, get_or_append_left}
@@ -10,6 +10,8 @@ use Rattle.std.proofs.lemmas.Slice.{between_is}
 use Rattle.std.specs.List.{All, between, filter, range_with_len}
 use Rattle.std.specs.List.Sorted.{IsBinarySearchResult}
 use Rattle.std.specs.Ordering.{nat_cmp}
+use Rattle.std.proofs.lemmas.Bool.Decides.{nat_tests}
+use Rattle.sim_standard.specs.Orders.{is_among}
 use Rattle.sim_standard.proofs.Numbers.{counted, counted-same, ranged}
 use Rattle.sim_store_simulation.specs.Simulation.{listed, those_in}
 
@@ -50,6 +52,22 @@ place-missing xs from p up h =
     }
 
 -- ---- numbers that pass a test
+
+-- each that is listed is among so many
+pub among-within : (test : ℕ → Bool) (from count n : ℕ) → is_among (counted test from count) n ≡ true → (from ≤ n) × (n < from + count)
+unfolding counted
+among-within test from zero n e = absurd (cc e)
+among-within test from (suc count) n e = go (test from) (eqb from n) refl (among-within test (suc from) count n) e
+  where
+    further : (suc from ≤ n) × (n < suc from + count) → (from ≤ n) × (n < from + suc count)
+    further w = (omega (arith, w.0), omega (arith, w.1))
+
+    go : (b c : Bool) → eqb from n ≡ c → (is_among (counted test (suc from) count) n ≡ true → (suc from ≤ n) × (n < suc from + count))
+        → is_among (if b then from ∷ counted test (suc from) count else counted test (suc from) count) n ≡ true
+        → (from ≤ n) × (n < from + suc count)
+    go true true q later a = let at : from ≡ n = grind (arith, nat_tests) in (omega (arith, at), omega (arith, at))
+    go true false q later a = further (later (ap (λ (c : Bool). c || is_among (counted test (suc from) count) n) (sym q) ∙ a))
+    go false c q later a = further (later a)
 
 -- what holds of each number among so many holds of all that are listed
 pub counted-within : (test : ℕ → Bool) (from count : ℕ) (P : ℕ → Type 0) → ((n : ℕ) → from ≤ n → n < from + count → P n) → All P (counted test from count)

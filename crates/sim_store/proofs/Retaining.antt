@@ -1,5 +1,5 @@
 -- A simulation is taken apart, and put together again.
-use Rattle.std.proofs.Common.{ℕ, zero, suc, ◌+◌, ◌-◌, ◌<◌, ◌≡◌, ◌++◌, Bool, true, false, List, [], ◌∷◌}
+use Rattle.std.proofs.Common.{ℕ, zero, suc, ◌+◌, ◌<◌, ◌≡◌, ◌++◌, Bool, true, false, List, [], ◌∷◌}
 use Rattle.std.proofs.Common.{length, refl, ap, sym, ◌∙◌, subst, arith}
 use Rattle.std.specs.List.{All}
 use Rattle.std.proofs.lemmas.List.{map-append}
@@ -15,7 +15,6 @@ use Rattle.sim_standard.specs.State.{Owned, all_drivers, driver_values, net_at, 
 use Rattle.sim_standard.specs.Processes.{object_net, process_at}
 use Rattle.sim_standard.proofs.Frame.{same_owned_after}
 use Rattle.sim_standard.proofs.ValuesKept.{values_kept}
-use Rattle.sim_standard.specs.declared.record.Record.{Record}
 use Rattle.sim_standard.proofs.Names.{no_process}
 use Rattle.sim_store_nets.specs.Lists.{NetValues}
 use Rattle.sim_store_nets.specs.Nets.{views_of}
@@ -23,18 +22,17 @@ use Rattle.sim_containers.specs.RowArray.{joined}
 use Rattle.sim_store_state.specs.FlatState.{AreShares, FlatState, IsConsistent, counts}
 use Rattle.sim_store_simulation.specs.Simulation.{Simulation, IsComplete, IsSimulation, IsStateOf, is_due}
 use Rattle.sim_store_simulation.specs.Simulation.{reached, those_in, with_marks}
-use Rattle.sim_store_simulation.specs.declared.phase.Phase.{Phase}
 use Rattle.sim_store.specs.Handing.{PhaseInput, IsPhaseInput, IsRange, at_phase, completed, at_input, result_in}
 use Rattle.sim_store.specs.declared.retained.RetainedContents.{RetainedContents}
 use Rattle.sim_store.specs.Retained.{IsRetained, retained_of}
-use Rattle.sim_store_simulation.proofs.Going.{cycle-count, reached-all}
+use Rattle.sim_store_simulation.proofs.Going.{reached-all}
 use Rattle.sim_store.proofs.Handed.{completed-due, completed-other}
 use Rattle.sim_store.proofs.Returning.{back-complete, back-keeps, fresh-input, fresh-owned, fresh-range}
 
 -- ---- taken apart
 
-module _ {h : Simulation} {time delta : ℕ} {held : FlatState} {records : List Record} {due waiting : List Bool}
-    (i : IsStateOf h time delta held records due waiting) (fresh : (p : ℕ) → those_in h.deposited p ≡ false) where
+module _ {h : Simulation} {time delta : ℕ} {held : FlatState} {due waiting : List Bool}
+    (i : IsStateOf h time delta held due waiting) (fresh : (p : ℕ) → those_in h.deposited p ≡ false) where
   -- what is read is that of the phase, of the design that is named
   pub first-input : (d : Design) (n : ℕ) → h.design ≡ d → n ≡ h.cycles → (codes : Coded) (values : NetValues)
       → AreCodesOf h.design.processes codes → views_of values.present values.before ≡ held.nets
@@ -75,23 +73,13 @@ module _ {h : Simulation} {time delta : ℕ} {held : FlatState} {records : List 
 
   -- the state by its parts
   pub first-state : (sources : List (List Source)) (nets : List NetView) → sources ≡ held.sources → nets ≡ held.nets
-      → IsStateOf h time delta (record { sources = sources; nets = nets; owned = (reached h).owned }) records due waiting
+      → IsStateOf h time delta (record { sources = sources; nets = nets; owned = (reached h).owned }) due waiting
   first-state sources nets es en =
       let e : held ≡ record { sources = sources; nets = nets; owned = (reached h).owned } =
       ap (λ (w : List (List Source)). record { sources = w; nets = held.nets; owned = held.owned }) (sym es)
       ∙ (ap (λ (w : List NetView). record { sources = sources; nets = w; owned = held.owned }) (sym en)
       ∙ ap (λ (w : List Owned). record { sources = sources; nets = nets; owned = w }) (fresh-owned i fresh)) in
-      subst (λ (w : FlatState). IsStateOf h time delta w records due waiting) e i
-
--- of the design that is named, and after so many cycles
-pub named-retained : (d own : Design) (f : PhaseInput) (k : RetainedContents) (n : ℕ) → own ≡ d → n ≡ f.cycles → IsRetained own f k
-    → IsRetained d (record f { cycles = n }) k
-named-retained d own f k n eo en is =
-    subst (λ (m : ℕ). IsRetained d (record f { cycles = m }) k) (sym en) (subst (λ (e : Design). IsRetained e f k) eo is)
-
--- a simulation by its records
-abbrev pub simulation_by : Design → List Record → Phase → List Bool → Simulation
-simulation_by design records phase marks = record { design = design; cycles = length records - 1; phase = phase; deposited = marks }
+      subst (λ (w : FlatState). IsStateOf h time delta w due waiting) e i
 
 -- ---- put together again
 
@@ -121,7 +109,7 @@ result-values h p all lt =
 module _ (d : Design) (f : PhaseInput) (k : RetainedContents) (is : IsRetained d f k) (owned' : List Owned)
     (range : IsRange (at_input d f) (completed (at_input d f)).owned 0 owned') (all : length owned' ≡ length d.processes) where
   i : IsStateOf (retained_of d f k) f.time k.delta
-      (record { sources = k.lists.sources; nets = views_of f.values.present f.values.before; owned = (reached (retained_of d f k)).owned }) k.log.records f.due
+      (record { sources = k.lists.sources; nets = views_of f.values.present f.values.before; owned = (reached (retained_of d f k)).owned }) f.due
       k.waiting.waiting
   i = is.holds.state
 
@@ -157,25 +145,21 @@ module _ (d : Design) (f : PhaseInput) (k : RetainedContents) (is : IsRetained d
     touching = is.split.touching;
   }
 
-  -- the number of cycles, by the records
-  pub whole-cycles : length k.log.records - 1 ≡ f.cycles
-  whole-cycles = omega (arith, cycle-count i)
-
   -- all due processes have been executed
   module _ (own : Design) (eo : own ≡ d) where
-    pub whole-same : simulation_by own k.log.records f.phase f.due ≡ with_marks (retained_of d f k) f.due
-    whole-same = rw (eo, whole-cycles) refl
+    pub whole-same : record { design = own; cycles = f.cycles; phase = f.phase; deposited = f.due } ≡ with_marks (retained_of d f k) f.due
+    whole-same = ap (λ (e : Design). record { design = e; cycles = f.cycles; phase = f.phase; deposited = f.due }) eo
 
-    pub whole-complete : IsComplete (simulation_by own k.log.records f.phase f.due)
+    pub whole-complete : IsComplete (record { design = own; cycles = f.cycles; phase = f.phase; deposited = f.due })
     whole-complete = subst IsComplete (sym whole-same) (back-complete i is.fresh owned' f.due range all sized-now (λ p. refl))
 
     pub whole-holds : (state : FlatState) → state ≡ record { sources = k.lists.sources; nets = views_of f.values.present f.values.before; owned = owned' }
-        → IsSimulation (simulation_by own k.log.records f.phase f.due) k.sensitive f.codes k.frame f.time k.delta state k.log.records f.due k.deposited
-        k.waiting.postponed k.waiting.waiting k.totals.items
+        → IsSimulation (record { design = own; cycles = f.cycles; phase = f.phase; deposited = f.due }) k.sensitive f.codes k.frame f.time k.delta state
+        f.due k.deposited k.waiting.postponed k.waiting.waiting k.totals.items
     whole-holds state es =
-        subst (λ (g : Simulation). IsSimulation g k.sensitive f.codes k.frame f.time k.delta state k.log.records f.due k.deposited k.waiting.postponed
+        subst (λ (g : Simulation). IsSimulation g k.sensitive f.codes k.frame f.time k.delta state f.due k.deposited k.waiting.postponed
         k.waiting.waiting k.totals.items) (sym whole-same)
-        (subst (λ (w : FlatState). IsSimulation (with_marks (retained_of d f k) f.due) k.sensitive f.codes k.frame f.time k.delta w k.log.records f.due
+        (subst (λ (w : FlatState). IsSimulation (with_marks (retained_of d f k) f.due) k.sensitive f.codes k.frame f.time k.delta w f.due
         k.deposited k.waiting.postponed k.waiting.waiting k.totals.items) (sym es) (record {
           compiled = is.holds.compiled;
           marked = is.holds.marked;

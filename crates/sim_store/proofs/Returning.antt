@@ -8,7 +8,6 @@ use Rattle.sim_exec_statements.specs.Ready.{IsReady}
 use Rattle.sim_exec_code.specs.Codes.{Coded, AreCodesOf}
 use Rattle.sim_standard.specs.State.{Owned, owned_at}
 use Rattle.sim_standard.specs.Processes.{process_at}
-use Rattle.sim_standard.specs.declared.record.Record.{Record}
 use Rattle.sim_standard.proofs.Names.{nothing_owned}
 use Rattle.sim_standard.proofs.Together.{length-merged, merged-none}
 use Rattle.sim_standard.proofs.Parallel.{merged-below}
@@ -85,8 +84,8 @@ range-of d cycles k phase p from n owned ek ep en r =
 
 -- ---- at the beginning of a phase
 
-module _ {h : Simulation} {time delta : ℕ} {held : FlatState} {records : List Record} {due waiting : List Bool}
-    (i : IsStateOf h time delta held records due waiting) (fresh : (p : ℕ) → those_in h.deposited p ≡ false) where
+module _ {h : Simulation} {time delta : ℕ} {held : FlatState} {due waiting : List Bool}
+    (i : IsStateOf h time delta held due waiting) (fresh : (p : ℕ) → those_in h.deposited p ≡ false) where
   pub fresh-owned : held.owned ≡ (reached h).owned
   fresh-owned = i.owned_are ∙ merged-none (those_in h.deposited) (result_in h) 0 (reached h).owned fresh
 
@@ -140,7 +139,7 @@ module _ {h : Simulation} {time delta : ℕ} {held : FlatState} {records : List 
     pub back-complete : IsComplete (with_marks h marks)
     back-complete p lt is = same p ∙ (i.due_are p lt ∙ is)
 
-    pub back-keeps : IsStateOf (with_marks h marks) time delta (record { sources = held.sources; nets = held.nets; owned = owned' }) records due waiting
+    pub back-keeps : IsStateOf (with_marks h marks) time delta (record { sources = held.sources; nets = held.nets; owned = owned' }) due waiting
     back-keeps = record {
       there = i.there;
       phased = i.phased;
@@ -151,7 +150,6 @@ module _ {h : Simulation} {time delta : ℕ} {held : FlatState} {records : List 
       nets_are = i.nets_are;
       owned_are = back-owned ∙ merged-below (is_due h) (those_in marks) (result_in h) 0 (reached h).owned
           (λ k ge lt. sym (same k ∙ i.due_are k (omega (arith, lt, reached-all i))));
-      records_are = i.records_are;
       sized = sized ∙ i.sized;
       due_sized = i.due_sized;
       waiting_sized = i.waiting_sized;

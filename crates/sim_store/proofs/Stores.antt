@@ -9,10 +9,16 @@ use Rattle.sim_standard.specs.Midway.{updated_in}
 use Rattle.sim_store.specs.declared.store.Step.{Step}
 use Rattle.sim_store.specs.declared.store.Step.TheVariants as step
 use Rattle.std.specs.Prelude.{IsSomeAnd, is_some}
-use Rattle.sim_store_simulation.specs.Simulation.{Simulation, IsComplete, IsExecuted, after, next_after, or_first, reached, with_marks}
+use Rattle.sim_store_state.specs.Log.{Logged}
+use Rattle.sim_store_simulation.specs.Simulation.{Simulation, IsComplete, IsExecuted, IsWhole, after, next_after, or_first, reached, with_marks}
 use Rattle.sim_store_simulation.specs.declared.phase.Phase.{Phase}
 use Rattle.sim_store_simulation.specs.declared.phase.Phase.TheVariants as phase
 use Rattle.sim_store.specs.WaveStore.{WaveStore, IsStore, HasEnd}
+
+-- a log of all records, with other processes executed or in another phase
+pub whole-marked : {h : Simulation} {log : Logged} → IsWhole h log → (f : Phase) (marks : List Bool)
+    → IsWhole (record { design = h.design; cycles = h.cycles; phase = f; deposited = marks }) log
+whole-marked w f marks = record { records = w.records; last = w.last }
 
 -- a run that begins
 pub store-begins : (g : Simulation) (stop limit : ℕ) → stop ≤ largest_time → g.cycles ≡ 0

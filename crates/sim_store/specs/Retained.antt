@@ -32,4 +32,4 @@ pub record IsRetained (design : Design) (f : PhaseInput) (k : RetainedContents) 
   pub split : IsSplit f.values (reached (retained_of design f k)).owned k.lists
   pub holds : IsSimulation (retained_of design f k) k.sensitive f.codes k.frame f.time k.delta
       (record { sources = k.lists.sources; nets = views_of f.values.present f.values.before; owned = (reached (retained_of design f k)).owned })
-      k.log.records f.due k.deposited k.waiting.postponed k.waiting.waiting k.totals.items
+      f.due k.deposited k.waiting.postponed k.waiting.waiting k.totals.items

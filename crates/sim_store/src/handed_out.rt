@@ -19,6 +19,7 @@ use crate::retained::{RetainedContents, join_contents, split_contents};
 use crate::store::WaveStore;
 use sim_store_share::Share;
 use sim_store_simulation::Simulation;
+use sim_store_state::Log;
 use std::alloc::{AllocError, Global};
 use std::marker::Model;
 use std::sync::Arc;
@@ -28,6 +29,7 @@ use std::sync::Arc;
 pub struct HandedOutStore<D: DesignType> {
     input: Arc<PhaseInput<D>, Global>,
     retained: RetainedContents,
+    log: Log,
     parts: Vec<usize>,
     stop: u64,
     limit: u32,
@@ -39,12 +41,14 @@ impl<D: DesignType> Drop for HandedOutStore<D> {
         let HandedOutStore {
             input,
             retained,
+            log,
             parts,
             stop: _,
             limit: _,
         } = self;
         drop(input);
         drop(retained);
+        drop(log);
         drop(parts);
     }
 }
@@ -59,6 +63,7 @@ impl<D: DesignType> Model for HandedOutStore<D> {
     ghost use Rattle.sim_store.specs.Handing.{HandedOutStore};
     ghost use Rattle.sim_store.specs.Retained.{IsRetained, retained_of};
     ghost use Rattle.sim_store.specs.WaveStore.{IsStore};
+    ghost use Rattle.sim_store_simulation.specs.Simulation.{IsWhole};
     ghost use Rattle.sim_store_state.specs.FlatState.{AreShares};
 
     ghost Value = { HandedOutStore };
@@ -72,7 +77,7 @@ impl<D: DesignType> Model for HandedOutStore<D> {
 
     ghost invariant = { λ r. IsRetained D.design (arc_value r.input) r.retained
         × IsStore (record { simulation = retained_of D.design (arc_value r.input) r.retained; stop = r.stop; limit = r.limit; ended = None })
-        × AreShares r.parts.items × (sum r.parts.items ≡ length D.design.processes) };
+        × AreShares r.parts.items × (sum r.parts.items ≡ length D.design.processes) × IsWhole (retained_of D.design (arc_value r.input) r.retained) r.log };
 }
 
 /// The orders for all processes, and the number of processes of each.
@@ -110,15 +115,18 @@ fn shared_input<D: DesignType>(
     Ok((input, orders, parts))
 }
 
-/// Hands out a phase of a simulation with this stop time, in femtoseconds, and this limit.
+/// Hands out a phase of a simulation with this log of all records, stop time, in femtoseconds, and
+/// limit.
 pub fn hand_out_phase<D: DesignType>(
     alloc: Global,
     simulation: Simulation,
+    log: Log,
     stop: u64,
     limit: u32,
 ) -> Result<(HandedOutStore<D>, Vec<Order<D>>), AllocError>
     requires design { simulation.design ≡ D.design }
     requires fresh { (p : ℕ) → simulations.those_in simulation.deposited p ≡ false }
+    requires log { simulations.IsWhole simulation log }
     requires bounds { store.IsStore (record { simulation = simulation; stop = stop; limit = limit; ended = None }) }
     ensures store { IfOk result (λ r. r.0.store ≡ record { simulation = simulation; stop = stop; limit = limit; ended = None }) }
     ensures orders { IfOk result (λ r. spec.AreAll r.0 r.1.items) }
@@ -129,6 +137,7 @@ pub fn hand_out_phase<D: DesignType>(
     let handed_out = HandedOutStore {
         input,
         retained,
+        log,
         parts,
         stop,
         limit,
@@ -193,12 +202,13 @@ impl<D: DesignType> HandedOutStore<D> {
         let HandedOutStore {
             input,
             retained,
+            log,
             parts,
             stop,
             limit,
         } = self;
         let (input, shares) = collect_answers(alloc, input, parts, answers)?;
         let simulation = simulation_of(alloc, input, shares, retained)?;
-        Ok(WaveStore::open(simulation, stop, limit))
+        Ok(WaveStore::open(simulation, log, stop, limit))
     }
 }

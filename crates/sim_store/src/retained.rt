@@ -16,7 +16,7 @@ use sim_flat_design::Design;
 use sim_store_nets::UpdateLists;
 use sim_store_share::Share;
 use sim_store_simulation::{Compiled, Contents, Waiting};
-use sim_store_state::{FlatState, Log};
+use sim_store_state::FlatState;
 use std::marker::PhantomData;
 
 /// The contents of a simulation, except the input of a phase and the drivers and variables of its
@@ -27,7 +27,6 @@ pub struct RetainedContents {
     pub sensitive: RisingRows,
     pub frame: Frame,
     pub lists: UpdateLists,
-    pub log: Log,
     pub waiting: Waiting,
     pub deposited: NumberSet,
     pub all_executed: bool,
@@ -55,7 +54,7 @@ pub fn split_contents<D: DesignType>(
         frame,
     } = contents.compiled;
     let fields = PhaseFields {
-        cycles: contents.log.len() - 1,
+        cycles: contents.cycles,
         phase: contents.phase,
         time: contents.time,
         design,
@@ -72,7 +71,6 @@ pub fn split_contents<D: DesignType>(
         sensitive,
         frame,
         lists,
-        log: contents.log,
         waiting: contents.waiting,
         deposited: contents.deposited,
         all_executed: contents.all_executed,
@@ -98,7 +96,7 @@ pub fn join_contents<D: DesignType>(
 {
     let PhaseInput { fields, of: _ } = input;
     let PhaseFields {
-        cycles: _,
+        cycles,
         phase,
         time,
         design,
@@ -108,6 +106,7 @@ pub fn join_contents<D: DesignType>(
     } = fields;
     let state = FlatState::of_parts(values, shares, retained.lists);
     let contents = Contents {
+        cycles,
         time,
         delta: retained.delta,
         compiled: Compiled {
@@ -116,7 +115,6 @@ pub fn join_contents<D: DesignType>(
             frame: retained.frame,
         },
         state,
-        log: retained.log,
         phase,
         due,
         waiting: retained.waiting,

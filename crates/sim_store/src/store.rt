@@ -22,7 +22,7 @@ use crate::order::Order;
 use sim_exec::{Done, Job};
 use sim_flat_design::Design;
 use sim_logic::{LATEST, Logic};
-use sim_store_simulation::{Simulation, Upcoming};
+use sim_store_simulation::{Simulation, Upcoming, records_from};
 use sim_store_state::{Log, Record};
 use std::alloc::{AllocError, Global};
 use std::marker::Model;
@@ -74,6 +74,7 @@ fn check(simulation: &Simulation, number: usize) -> Result<(), StoreError>
 /// of its design gives, one process at a time, and the way the run ended is its outcome.
 pub struct WaveStore {
     simulation: Simulation,
+    log: Log,
     stop: u64,
     limit: u32,
     ended: Option<Step>,
@@ -84,11 +85,13 @@ impl Drop for WaveStore {
     fn drop(self) {
         let WaveStore {
             simulation,
+            log,
             stop: _,
             limit: _,
             ended: _,
         } = self;
         drop(simulation);
+        drop(log);
     }
 }
 
@@ -98,6 +101,7 @@ impl Model for WaveStore {
     ghost use Rattle.sim_flat_design.specs.contracts.expression.BooleanExpression as boolean;
     ghost use Rattle.sim_flat_design.specs.contracts.statement.Statement as statement;
     ghost use Rattle.sim_store.specs.WaveStore.{WaveStore, IsStore};
+    ghost use Rattle.sim_store_simulation.specs.Simulation.{IsWhole};
 
     ghost Value = { WaveStore };
 
@@ -105,7 +109,8 @@ impl Model for WaveStore {
 
     ghost view = { λ s. record { simulation = s.simulation; stop = s.stop; limit = s.limit; ended = s.ended } };
 
-    ghost invariant = { λ s. IsStore (record { simulation = s.simulation; stop = s.stop; limit = s.limit; ended = s.ended }) };
+    ghost invariant = { λ s. IsStore (record { simulation = s.simulation; stop = s.stop; limit = s.limit; ended = s.ended })
+        × IsWhole s.simulation s.log };
 }
 
 impl WaveStore {
@@ -127,8 +132,9 @@ impl WaveStore {
         }
         match Simulation::begin(alloc, design) {
             Err((_error, design)) => Err((StoreError::Memory, design)),
-            Ok(simulation) => Ok(WaveStore {
+            Ok((simulation, log)) => Ok(WaveStore {
                 simulation,
+                log,
                 stop,
                 limit,
                 ended: None,
@@ -198,6 +204,7 @@ impl WaveStore {
         }
         let WaveStore {
             simulation,
+            log,
             stop,
             limit,
             ended,
@@ -205,6 +212,7 @@ impl WaveStore {
         let simulation = simulation.execute_due(alloc)?;
         Ok(WaveStore {
             simulation,
+            log,
             stop,
             limit,
             ended,
@@ -226,13 +234,15 @@ impl WaveStore {
         Ok(run)
     }
 
-    /// The store of a run that has not ended.
-    pub(crate) fn open(simulation: Simulation, stop: u64, limit: u32) -> WaveStore
-        requires { spec.IsStore (record { simulation = simulation; stop = stop; limit = limit; ended = None }) }
+    /// The store of a run that has not ended, with a log of all records.
+    pub(crate) fn open(simulation: Simulation, log: Log, stop: u64, limit: u32) -> WaveStore
+        requires log { simulations.IsWhole simulation log }
+        requires bounds { spec.IsStore (record { simulation = simulation; stop = stop; limit = limit; ended = None }) }
         ensures { result ≡ record { simulation = simulation; stop = stop; limit = limit; ended = None } }
     {
         WaveStore {
             simulation,
+            log,
             stop,
             limit,
             ended: None,
@@ -246,6 +256,7 @@ impl WaveStore {
     {
         let WaveStore {
             simulation,
+            log,
             stop,
             limit,
             ended,
@@ -253,6 +264,7 @@ impl WaveStore {
         let simulation = simulation.divide(alloc, shares)?;
         Ok(WaveStore {
             simulation,
+            log,
             stop,
             limit,
             ended,
@@ -295,11 +307,12 @@ impl WaveStore {
     {
         let WaveStore {
             simulation,
+            log,
             stop,
             limit,
             ended: _,
         } = self;
-        hand_out_phase::<D>(alloc, simulation, stop, limit)
+        hand_out_phase::<D>(alloc, simulation, log, stop, limit)
     }
 
     /// Goes on once all due processes have been executed (14.7.5.3): to the postponed processes of
@@ -357,7 +370,7 @@ impl WaveStore {
         if self.simulation.cycles() == self.limit as usize {
             return Ok(self.end(Step::LimitReached));
         }
-        self.simulation.go_on(time)?;
+        self.simulation.go_on(time, &mut self.log)?;
         Ok(Step::Next)
     }
 
@@ -421,11 +434,12 @@ impl WaveStore {
         ensures rising { simulations.AreRising self.now.simulation }
     {
         let (time, delta) = self.simulation.time();
+        self.simulation.are_records();
         Look {
-            records: self.simulation.records(),
+            records: self.log.len(),
             time,
             delta,
-            events: self.simulation.events(),
+            events: self.simulation.events(self.log.count()),
         }
     }
 
@@ -455,7 +469,8 @@ impl WaveStore {
         ensures records { result.now.records ≡ records_to self.now.simulation.design self.now.simulation.cycles }
         ensures named { All (IsNamed (length self.now.simulation.design.nets)) result.now.records }
     {
-        self.simulation.history()
+        self.simulation.are_records();
+        &self.log
     }
 
     /// The records from a number on; none if the number is that of all records. Refusals: `Behind`
@@ -466,11 +481,12 @@ impl WaveStore {
         ensures named { IfOk result (λ v. All (IsNamed (length self.now.simulation.design.nets)) v.items) }
         ensures err { IfErr result (spec.IsRecordsRefusal self.now number) }
     {
-        let records = self.simulation.records();
+        self.simulation.are_records();
+        let records = self.log.len();
         if number > records {
             return Err(StoreError::Behind { records });
         }
-        let found = self.simulation.records_from(alloc, number)?;
+        let found = records_from(alloc, &self.log, number)?;
         Ok(found)
     }
 }

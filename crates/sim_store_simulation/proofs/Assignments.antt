@@ -1,120 +1,205 @@
 -- Due processes that are executed one after another, by what they own, without marks.
-use Rattle.std.proofs.Common.{ℕ, zero, suc, ◌+◌, ◌-◌, ◌<◌, ◌≤◌, ◌≡◌, Bool, true, false, if◌then◌else◌, List, [], ◌∷◌, length, get_or, take, drop}
-use Rattle.std.proofs.Common.{add-one, refl, ap, sym, ◌∙◌, subst, arith}
-use Rattle.std.proofs.Math.Seq.{take-length}
+use Rattle.std.proofs.Common.{ℕ, zero, suc, ◌+◌, ◌<◌, ◌≤◌, ◌≡◌, ◌≢◌, ◌&&◌, ◌||◌, eqb, not, cond, Bool, true, false, if◌then◌else◌, List, [], ◌∷◌, length}
+use Rattle.std.proofs.Common.{refl, ap, sym, ◌∙◌, subst, arith}
+use Rattle.std.specs.List.{All, filter}
+use Rattle.std.proofs.lemmas.Bool.Decides.{nat_tests}
+use Rattle.std.proofs.lemmas.List.{length-set}
 use Rattle.std.proofs.lemmas.List.Elements.{All-cons, All-nil}
-use Rattle.std.specs.List.{All}
 use Rattle.sim_flat_design.specs.Designs.{Design}
-use Rattle.sim_exec_statements.specs.Ready.{IsReady}
-use Rattle.sim_standard.proofs.Numbers.{counted}
+use Rattle.sim_containers.specs.Numbers.{is_beside}
+use Rattle.sim_standard.proofs.Numbers.{counted, counted-in, counted-once, counted-same, ranged}
+use Rattle.sim_standard.specs.Orders.{is_among, NoRepeats}
 use Rattle.sim_standard.specs.Processes.{process_at}
-use Rattle.sim_standard.specs.State.{owned_at}
 use Rattle.sim_store_state.specs.FlatState.{FlatState}
 use Rattle.sim_store_state.specs.InTurn as turn
 use Rattle.sim_store_state.specs.InTurn.{AreExecuted, after_one}
 use Rattle.sim_store_simulation.specs.declared.simulation.Contents.{Contents}
-use Rattle.sim_store_simulation.specs.Contents.{HasOneMore, IsExecutable, IsWith}
-use Rattle.sim_store_simulation.specs.Simulation.{listed, those_in}
-use Rattle.sim_store_simulation.proofs.Along.{number-at}
-use Rattle.sim_store_simulation.proofs.Going.{executed-keeps, held-count, ready-here}
-use Rattle.sim_store_simulation.proofs.Listed.{AreListed, listed-first, listed-more, listed-next}
-use Rattle.sim_store_simulation.proofs.Walks.{due-within}
+use Rattle.sim_store_simulation.specs.Contents.{IsWith, simulation_of, simulation_with, unmarked_of}
+use Rattle.sim_store_simulation.specs.Simulation.{Simulation, IsComplete, IsMissing, IsStateOf, is_due, listed, those_in, with_marks, with_one}
+use Rattle.sim_store_simulation.proofs.Going.{executed-are-due, executed-keeps, held-count, one-marked, ready-here}
+use Rattle.sim_store_simulation.proofs.Walks.{due-within, missing-beside, others-missing}
 
--- what holds of each number from one on that passes a test holds of all that are listed from there
-counted-each : (test : ℕ → Bool) (from count : ℕ) (P : ℕ → Type 0) → ((p : ℕ) → from ≤ p → test p ≡ true → P p) → All P (counted test from count)
+-- ---- numbers that pass a test
+
+-- those of them that pass another one
+filter-counted : (f g : ℕ → Bool) (from count : ℕ) → filter g (counted f from count) ≡ counted (λ p. f p && g p) from count
+unfolding counted
+filter-counted f g from zero = refl
+filter-counted f g from (suc count) = go (f from) (filter-counted f g (suc from) count)
+  where
+    keep : (c : Bool) → filter g (counted f (suc from) count) ≡ counted (λ p. f p && g p) (suc from) count
+        → cond c (from ∷ filter g (counted f (suc from) count)) (filter g (counted f (suc from) count))
+        ≡ (if c then from ∷ counted (λ p. f p && g p) (suc from) count else counted (λ p. f p && g p) (suc from) count)
+    keep true e = ap (λ ns. from ∷ ns) e
+    keep false e = e
+
+    go : (b : Bool) → filter g (counted f (suc from) count) ≡ counted (λ p. f p && g p) (suc from) count
+        → filter g (if b then from ∷ counted f (suc from) count else counted f (suc from) count)
+        ≡ (if b && g from then from ∷ counted (λ p. f p && g p) (suc from) count else counted (λ p. f p && g p) (suc from) count)
+    go true e = keep (g from) e
+    go false e = e
+
+-- each of them passes it
+among-passes : (f : ℕ → Bool) (from count n : ℕ) → is_among (counted f from count) n ≡ true → f n ≡ true
+unfolding counted
+among-passes f from zero n e = absurd (cc e)
+among-passes f from (suc count) n e = go (f from) refl (eqb from n) refl (among-passes f (suc from) count n) e
+  where
+    go : (b : Bool) → f from ≡ b → (c : Bool) → eqb from n ≡ c → (is_among (counted f (suc from) count) n ≡ true → f n ≡ true)
+        → is_among (if b then from ∷ counted f (suc from) count else counted f (suc from) count) n ≡ true → f n ≡ true
+    go true is true e rest a = let at : from ≡ n = grind (arith, nat_tests) in ap f (sym at) ∙ is
+    go true is false e rest a = rest (ap (λ (c : Bool). c || is_among (counted f (suc from) count) n) (sym e) ∙ a)
+    go false is c e rest a = rest a
+
+-- and what holds of each number that passes it holds of them all
+counted-each : (test : ℕ → Bool) (from count : ℕ) (P : ℕ → Type 0) → ((p : ℕ) → test p ≡ true → P p) → All P (counted test from count)
 unfolding counted
 counted-each test from zero P holds = All-nil P
-counted-each test from (suc count) P holds = go (test from) refl (counted-each test (suc from) count P (λ p ge. holds p (omega (arith, ge))))
+counted-each test from (suc count) P holds = go (test from) refl (counted-each test (suc from) count P holds)
   where
     go : (b : Bool) → test from ≡ b → All P (counted test (suc from) count)
         → All P (if b then from ∷ counted test (suc from) count else counted test (suc from) count)
-    go true is rest = All-cons P from (counted test (suc from) count) (holds from (omega arith) is) rest
+    go true is rest = All-cons P from (counted test (suc from) count) (holds from is) rest
     go false is rest = rest
 
--- after a due process has been executed, what is held is still that of the simulation
-one-kept : {design : Design} (m : Contents) (n : ℕ) → IsExecutable design m n
-    → IsReady (process_at design.processes n).body m.time (owned_at (after_one design.processes m.time m.state n).owned n)
-    → HasOneMore design m (record m { state = after_one design.processes m.time m.state n }) n
-one-kept {design} m n is ready executed of fresh =
-    let state : FlatState = after_one design.processes m.time m.state n in
-    record {
-      compiled = of.compiled;
-      marked = of.marked;
-      state = executed-keeps of.state n is.within fresh (process_at design.processes n) state refl
-          (sym (of.state.due_are n is.within) ∙ is.due) refl ready;
-      marks_sized = of.marks_sized;
-      counts = of.counts;
-    }
+-- ---- one after another
 
-module _ {design : Design} {m : Contents} {n : ℕ} (is : IsExecutable design m n) where
-  -- a single process can be executed by what it owns
-  pub one-executable : All (turn.IsExecutable design.processes m.time m.state.owned) (n ∷ [])
-  one-executable = All-cons (turn.IsExecutable design.processes m.time m.state.owned) n [] (record {
-    number = is.within;
-    owns = omega (arith, is.within, held-count is.of.state);
-    ready = ready-here is.of.state n is.within is.fresh;
-  }) (All-nil (turn.IsExecutable design.processes m.time m.state.owned))
+-- a simulation with these processes executed
+abbrev with_all : Simulation → List ℕ → Simulation
+with_all h [] = h
+with_all h (n ∷ ns) = with_all (with_one h n) ns
 
-  -- and has then been
-  pub one-more : (new : Contents) → new ≡ record m { state = new.state } → AreExecuted design.processes m.time (n ∷ []) m.state new.state
-      → HasOneMore design m new n
-  one-more new kept e =
-      let same : new ≡ record m { state = after_one design.processes m.time m.state n } = kept ∙ ap (λ (w : FlatState). record m { state = w }) e.1 in
-      subst (λ (w : Contents). HasOneMore design m w n) (sym same) (one-kept m n is e.0)
+with_all-marks : (ns : List ℕ) (h : Simulation) → with_all h ns ≡ with_marks h (with_all h ns).deposited
+with_all-marks [] h = refl
+with_all-marks (n ∷ ns) h = with_all-marks ns (with_one h n)
 
-module _ {design : Design} {old : Contents} where
-  -- the due processes from a place on can be executed
-  pub rest-executable : {now : Contents} {place : ℕ} → AreListed design old now place
-      → All (turn.IsExecutable design.processes now.time now.state.owned) (drop place (listed now.due))
-  rest-executable {now} {place} s =
-      let i = s.of.state in
-      subst (All (turn.IsExecutable design.processes now.time now.state.owned)) (sym s.along.left)
-      (counted-each (those_in now.due) s.along.from (length now.due - s.along.from) (turn.IsExecutable design.processes now.time now.state.owned)
-      (λ p ge due.
-      let lt = due-within i p due in
+-- they have been executed, and those before
+marked-all : (ns : List ℕ) (h : Simulation) → ((q : ℕ) → is_among ns q ≡ true → q < length h.deposited) → (p : ℕ)
+    → those_in (with_all h ns).deposited p ≡ (is_among ns p || those_in h.deposited p)
+marked-all [] h within p = refl
+marked-all (n ∷ ns) h within p =
+    let sized = length-set h.deposited n true in
+    let there : n < length h.deposited = within n (first (eqb n n) (is_among ns n) (grind (arith, nat_tests))) in
+    marked-all ns (with_one h n) (λ q a. omega (arith, sized, within q (later (eqb n q) (is_among ns q) a))) p
+    ∙ (ap (λ (b : Bool). is_among ns p || b) (sym (one-marked h.deposited n p there))
+    ∙ apart (is_among ns p) (eqb n p) (those_in h.deposited p))
+  where
+    first : (a b : Bool) → a ≡ true → (a || b) ≡ true
+    first true b e = refl
+    first false b e = absurd (cc e)
+
+    later : (a b : Bool) → b ≡ true → (a || b) ≡ true
+    later true b e = refl
+    later false b e = e
+
+    apart : (a b c : Bool) → (a || (b || c)) ≡ ((b || a) || c)
+    apart true true c = refl
+    apart true false c = refl
+    apart false true c = refl
+    apart false false c = refl
+
+-- what is held is still that of the simulation
+some-executed : (ns : List ℕ) {h : Simulation} {time delta : ℕ} {held : FlatState} {due waiting : List Bool} (i : IsStateOf h time delta held due waiting)
+    → NoRepeats ns → ((p : ℕ) → is_among ns p ≡ true → IsMissing h p) → (held' : FlatState)
+    → AreExecuted h.design.processes time ns held held' → IsStateOf (with_all h ns) time delta held' due waiting
+some-executed [] {h} {time} {delta} {held} {due} {waiting} i once missing held' e =
+    subst (λ (w : FlatState). IsStateOf h time delta w due waiting) (sym e) i
+some-executed (n ∷ ns) {h} {time} {delta} {held} i once missing held' e =
+    let here : eqb n n ≡ true = grind (arith, nat_tests) in
+    let m : IsMissing h n = missing n (ap (λ (b : Bool). b || is_among ns n) here) in
+    let process = process_at h.design.processes n in
+    some-executed ns
+    (executed-keeps i n m.due.number m.fresh process (after_one h.design.processes time held n) refl m.due.resumed refl e.0) once.1
+    (λ p a. others-missing h n p (λ same. cc (a, ap (is_among ns) same, once.0)) (missing p (later (eqb n p) (is_among ns p) a))) held' e.1
+  where
+    later : (a b : Bool) → b ≡ true → (a || b) ≡ true
+    later true b e = refl
+    later false b e = e
+
+-- ---- all that are missing
+
+module _ (design : Design) (m : Contents) (of : IsWith design m m.deposited) where
+  abbrev h : Simulation
+  h = simulation_with design m m.deposited
+
+  abbrev numbers : List ℕ
+  numbers = counted (is_beside m.due m.deposited) 0 (length m.due)
+
+  unmarked-are : unmarked_of m.due m.deposited ≡ numbers
+  unmarked-are =
+      let fresh : ℕ → Bool = λ p. not (those_in m.deposited p) in
+      ap (filter fresh) (ranged (those_in m.due) 0 (length m.due)) ∙ filter-counted (those_in m.due) fresh 0 (length m.due)
+
+  are-missing : (p : ℕ) → is_among numbers p ≡ true → IsMissing h p
+  are-missing p a = missing-beside of.state p (among-passes (is_beside m.due m.deposited) 0 (length m.due) p a)
+
+  -- they can be executed
+  pub unmarked-executable : All (turn.IsExecutable design.processes m.time m.state.owned) (unmarked_of m.due m.deposited)
+  unmarked-executable =
+      subst (All (turn.IsExecutable design.processes m.time m.state.owned)) (sym unmarked-are)
+      (counted-each (is_beside m.due m.deposited) 0 (length m.due) (turn.IsExecutable design.processes m.time m.state.owned)
+      (λ p passes.
+      let missing = missing-beside of.state p passes in
       record {
-        number = lt;
-        owns = omega (arith, lt, held-count i);
-        ready = ready-here i p lt (s.along.fresh p ge);
+        number = missing.due.number;
+        owns = omega (arith, missing.due.number, held-count of.state);
+        ready = ready-here of.state p missing.due.number missing.fresh;
       }))
 
-  -- the next one has been
-  one-executed : {now : Contents} {place : ℕ} (s : AreListed design old now place) → place < length (listed now.due)
-      → IsReady (process_at design.processes (get_or (listed now.due) place 0)).body now.time
-      (owned_at (after_one design.processes now.time now.state (get_or (listed now.due) place 0)).owned (get_or (listed now.due) place 0))
-      → AreListed design old (record now { state = after_one design.processes now.time now.state (get_or (listed now.due) place 0) }) (place + 1)
-  one-executed {now} {place} s lt ready =
-      let n = get_or (listed now.due) place 0 in
-      listed-more s lt (record now { state = after_one design.processes now.time now.state n }) refl (one-kept now n (listed-next s lt) ready)
+  -- and once they have been, all due processes have
+  module _ (state : FlatState) (e : AreExecuted design.processes m.time (unmarked_of m.due m.deposited) m.state state) where
+    done : IsStateOf (with_all h numbers) m.time m.delta state m.due m.waiting.waiting
+    done =
+        some-executed numbers of.state (counted-once (is_beside m.due m.deposited) 0 (length m.due)) are-missing state
+        (subst (λ (ns : List ℕ). AreExecuted design.processes m.time ns m.state state) unmarked-are e)
 
-  -- and so have the next few
-  pub some-executed : (count : ℕ) {now : Contents} {place : ℕ} → AreListed design old now place → place + count ≤ length (listed now.due) → (new : Contents)
-      → new ≡ record now { state = new.state }
-      → AreExecuted design.processes now.time (take count (drop place (listed now.due))) now.state new.state → AreListed design old new (place + count)
-  some-executed zero {now} {place} s le new kept e =
-      let same : now ≡ new = sym (kept ∙ ap (λ (w : FlatState). record now { state = w }) e) in
-      let here : place ≡ place + 0 = omega arith in
-      subst (λ (k : ℕ). AreListed design old new k) here (subst (λ (m : Contents). AreListed design old m place) same s)
-  some-executed (suc count) {now} {place} s le new kept e =
-      let l = listed now.due in
-      let n = get_or l place 0 in
-      let lt : place < length l = omega (arith, le) in
-      let at : drop place l ≡ n ∷ drop (place + 1) l = number-at l place lt ∙ ap (λ k. n ∷ drop k l) (sym (add-one place)) in
-      let w = subst (λ (ns : List ℕ). AreExecuted design.processes now.time (take (suc count) ns) now.state new.state) at e in
-      let there : place + 1 + count ≡ place + suc count = omega arith in
-      subst (λ (k : ℕ). AreListed design old new k) there
-      (some-executed count (one-executed s lt w.0) (omega (arith, le)) new kept w.1)
+    complete : IsComplete (with_all h numbers)
+    complete p lt resumed =
+        marked-all numbers h (λ q a. omega (arith, (are-missing q a).due.number, of.state.sized)) p
+        ∙ go (those_in m.deposited p) refl
+      where
+        is_due_here : those_in m.due p ≡ true
+        is_due_here = of.state.due_are p lt-here ∙ resumed-here
+          where
+            as_before : with_all h numbers ≡ with_marks h (with_all h numbers).deposited
+            as_before = with_all-marks numbers h
 
-  -- where none had been, all due processes have been executed
-  pub all-executed : IsWith design old old.deposited → ((p : ℕ) → those_in old.deposited p ≡ false) → (new : Contents) → new ≡ record old { state = new.state }
-      → AreExecuted design.processes old.time (listed old.due) old.state new.state → AreListed design old new (length (listed old.due))
-  all-executed of none new kept e =
-      let l = listed old.due in
-      let all : 0 + length l ≡ length l = omega arith in
-      subst (AreListed design old new) all (some-executed (length l) (listed-first design old of none) (omega arith) new kept
-      (subst (λ (ns : List ℕ). AreExecuted design.processes old.time ns old.state new.state) (sym (take-length l)) e))
+            lt-here : p < length design.processes
+            lt-here = subst (λ (g : Simulation). p < length g.design.processes) as_before lt
 
--- where none has been executed, all due processes can be
-pub all-executable : (design : Design) (m : Contents) → IsWith design m m.deposited → ((p : ℕ) → those_in m.deposited p ≡ false)
-    → All (turn.IsExecutable design.processes m.time m.state.owned) (listed m.due)
-all-executable design m of none = rest-executable (listed-first design m of none)
+            resumed-here : is_due h p ≡ true
+            resumed-here = subst (λ (g : Simulation). is_due g p ≡ true) as_before resumed
+
+        go : (b : Bool) → those_in m.deposited p ≡ b → (is_among numbers p || those_in m.deposited p) ≡ true
+        go true marked = rw marked (last (is_among numbers p))
+          where
+            last : (b : Bool) → (b || true) ≡ true
+            last true = refl
+            last false = refl
+        go false marked =
+            let there : p < length m.due = omega (
+              arith,
+              of.state.due_sized,
+              subst (λ (g : Simulation). p < length g.design.processes)
+                  (with_all-marks numbers h) lt,
+            ) in
+            let listed_there : is_among numbers p ≡ true =
+            counted-in (is_beside m.due m.deposited) 0 (length m.due) p (omega arith) (omega (arith, there)) ∙ rw (is_due_here, marked) refl in
+            ap (λ (b : Bool). b || those_in m.deposited p) listed_there
+
+    pub all-held : IsStateOf (simulation_with design m m.due) m.time m.delta state m.due m.waiting.waiting
+    all-held =
+        subst (λ (g : Simulation). IsStateOf g m.time m.delta state m.due m.waiting.waiting)
+        (with_all-marks numbers h ∙ ap (with_marks h) (executed-are-due done complete)) done
+
+-- where none is marked, these are all due ones
+pub unmarked-all : (due marks : List Bool) → ((p : ℕ) → those_in marks p ≡ false) → unmarked_of due marks ≡ listed due
+unmarked-all due marks none =
+    let fresh : ℕ → Bool = λ p. not (those_in marks p) in
+    ap (filter fresh) (ranged (those_in due) 0 (length due)) ∙ (filter-counted (those_in due) fresh 0 (length due)
+    ∙ (counted-same (λ p. those_in due p && fresh p) (those_in due) 0 (length due) (λ p ge lt. rw (none p) (and_true (those_in due p)))
+    ∙ sym (ranged (those_in due) 0 (length due))))
+  where
+    and_true : (b : Bool) → (b && true) ≡ b
+    and_true true = refl
+    and_true false = refl

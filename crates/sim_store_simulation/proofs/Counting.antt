@@ -47,21 +47,20 @@ totals-go-on nets records now one totals totals' begun e t c = record {
 }
 
 -- a net had no more events than there were cycles
-pub totals-few : {h : Simulation} {time delta : ℕ} {held : FlatState} {records : List Record} {due waiting : List Bool}
-    (i : IsStateOf h time delta held records due waiting)
-    (totals : List ℕ) → AreTotals (length h.design.nets) records totals → (n : ℕ) → get_or totals n 0 ≤ h.cycles
-totals-few {h} {records = records} i totals t n =
+pub totals-few : {h : Simulation} {time delta : ℕ} {held : FlatState} {due waiting : List Bool}
+    (i : IsStateOf h time delta held due waiting)
+    (totals : List ℕ) → AreTotals (length h.design.nets) (records_to h.design h.cycles) totals → (n : ℕ) → get_or totals n 0 ≤ h.cycles
+totals-few {h} i totals t n =
     get_or-all (λ m. m ≤ h.cycles) totals n (omega arith)
     (λ lt. let there : n < length h.design.nets = omega (arith, lt, t.sized) in
     let few = total-few h.design i.processes h.cycles n (updated_last h) i.there there in
-    let same = ap (λ (rs : List Record). total_of rs n) i.records_are in
-    omega (arith, t.counted n there, same, few))
+    omega (arith, t.counted n there, few))
 
 -- ---- values
 
 -- the value that a net has is that of its last change in the records
-pub known-value : {h : Simulation} {time delta : ℕ} {held : FlatState} {records : List Record} {due waiting : List Bool}
-    (i : IsStateOf h time delta held records due waiting)
+pub known-value : {h : Simulation} {time delta : ℕ} {held : FlatState} {due waiting : List Bool}
+    (i : IsStateOf h time delta held due waiting)
     (n : ℕ) (o : Option Logic) → MatchOption o (length held.nets ≤ n) (λ v. (n < length held.nets) × (v ≡ (net_at held.nets n).value))
     → IfSome o (λ v. value_by (records_to h.design h.cycles) n ≡ Some v)
 known-value i n None m = tt

@@ -72,7 +72,7 @@ pub first-records : (d : Design) → records_to d 0 ≡ record { time = 0; delta
 unfolding records_to
 first-records d = refl
 
-one-marked : (marks : List Bool) (n k : ℕ) → n < length marks → (eqb n k || get_or marks k false) ≡ get_or (set marks n true) k false
+pub one-marked : (marks : List Bool) (n k : ℕ) → n < length marks → (eqb n k || get_or marks k false) ≡ get_or (set marks n true) k false
 one-marked marks n k lt = go (eqb n k) refl
   where
     go : (b : Bool) → eqb n k ≡ b → (b || get_or marks k false) ≡ get_or (set marks n true) k false
@@ -83,8 +83,8 @@ one-marked marks n k lt = go (eqb n k) refl
         let apart : k ≢ n = grind (arith, nat_tests) in
         sym (get_or-set_other marks n k true false apart)
 
-module _ {h : Simulation} {time delta : ℕ} {held : FlatState} {records : List Record} {due waiting : List Bool}
-    (i : IsStateOf h time delta held records due waiting) where
+module _ {h : Simulation} {time delta : ℕ} {held : FlatState} {due waiting : List Bool}
+    (i : IsStateOf h time delta held due waiting) where
   -- the state at the end of the cycle, and what follows it
   ended-here : ended h.design h.cycles ≡ Some (cycle_end h.design h.cycles (updated_last h))
   ended-here = carried_on h.design h.cycles ∙ ap (option_map (cycle_end h.design h.cycles)) i.there
@@ -113,8 +113,9 @@ module _ {h : Simulation} {time delta : ℕ} {held : FlatState} {records : List 
   pub slow : delta ≤ h.cycles
   slow = subst (λ (n : ℕ). n ≤ h.cycles) (sym i.delta_is) reached-fits.1
 
-  pub cycle-count : length records ≡ suc h.cycles
-  cycle-count = ap length i.records_are ∙ length-records_to h.design h.cycles (cycle_end h.design h.cycles (updated_last h)) ended-here
+  -- there is a record of the initialization and one of each cycle
+  pub record-count : length (records_to h.design h.cycles) ≡ suc h.cycles
+  record-count = length-records_to h.design h.cycles (cycle_end h.design h.cycles (updated_last h)) ended-here
 
   pub held-count : length held.owned ≡ length h.design.processes
   held-count = ap length i.owned_are ∙ (length-merged (those_in h.deposited) (results h) 0 (reached h).owned ∙ reached-all)
@@ -127,7 +128,7 @@ module _ {h : Simulation} {time delta : ℕ} {held : FlatState} {records : List 
   -- one more process has been executed
   pub deposited-keeps : (p : ℕ) (own : Owned) (held' : FlatState) → IsResult h p own → IsReady (process_at h.design.processes p).body time own
       → held' ≡ record { sources = held.sources; nets = held.nets; owned = set held.owned p own }
-      → IsStateOf (record h { deposited = set h.deposited p true }) time delta held' records due waiting
+      → IsStateOf (record h { deposited = set h.deposited p true }) time delta held' due waiting
   deposited-keeps p own held' r is_ready e =
       let f = those_in h.deposited in
       let lt : p < length h.deposited = omega (arith, i.sized, r.number) in
@@ -146,7 +147,6 @@ module _ {h : Simulation} {time delta : ℕ} {held : FlatState} {records : List 
         sources_are = ap (λ (w : FlatState). w.sources) e ∙ i.sources_are;
         nets_are = ap (λ (w : FlatState). w.nets) e ∙ i.nets_are;
         owned_are = ap (λ (w : FlatState). w.owned) e ∙ (a ∙ (b ∙ m));
-        records_are = i.records_are;
         sized = length-set h.deposited p true ∙ i.sized;
         due_sized = i.due_sized;
         waiting_sized = i.waiting_sized;
@@ -200,16 +200,16 @@ none-marked-now : (marks : List Bool) → replicate (length marks) false ≡ cle
 none-marked-now [] = refl
 none-marked-now (b ∷ bs) = ap (λ w. false ∷ w) (none-marked-now bs)
 
-module _ {h : Simulation} {time delta : ℕ} {held : FlatState} {records : List Record} {due waiting : List Bool}
-    (i : IsStateOf h time delta held records due waiting) where
+module _ {h : Simulation} {time delta : ℕ} {held : FlatState} {due waiting : List Bool}
+    (i : IsStateOf h time delta held due waiting) where
   pub none-marked-for : (marks : List Bool) → length marks ≡ length h.design.processes → replicate (length marks) false ≡ cleared h.deposited
   none-marked-for marks sized = ap (λ (n : ℕ). replicate n false) (sized ∙ sym i.sized) ∙ none-marked-now h.deposited
 
 later-resumed : (d : Design) (k p : ℕ) (s : State) → is_resumed d (suc k) s p ≡ has_event_in s.nets (process_at d.processes p).sensitivity
 later-resumed d k p s = let t : eqb (suc k) 0 ≡ false = grind (arith, nat_tests) in rw t refl
 
-module _ {h : Simulation} {time delta : ℕ} {held : FlatState} {records : List Record} {due waiting : List Bool}
-    (i : IsStateOf h time delta held records due waiting)
+module _ {h : Simulation} {time delta : ℕ} {held : FlatState} {due waiting : List Bool}
+    (i : IsStateOf h time delta held due waiting)
     (all : IsComplete h) where
   -- once all due processes have been executed, processes own what the phase leaves
   pub phase-complete : held.owned ≡ (phase_end h.phase h.design h.cycles (updated_last h)).owned
@@ -227,8 +227,8 @@ module _ {h : Simulation} {time delta : ℕ} {held : FlatState} {records : List 
   next-is = ap (λ (os : List Owned). next_time (all_drivers os)) phase-complete
 
 -- so if postponed processes come next, their phase begins
-module _ {h : Simulation} {time delta : ℕ} {held : FlatState} {records : List Record} {due waiting : List Bool}
-    (i : IsStateOf h time delta held records due waiting) (all : IsComplete h) (first : h.phase ≡ phase.NonPostponed)
+module _ {h : Simulation} {time delta : ℕ} {held : FlatState} {due waiting : List Bool}
+    (i : IsStateOf h time delta held due waiting) (all : IsComplete h) (first : h.phase ≡ phase.NonPostponed)
     (next : ArePostponedNext h.design h.cycles (updated_last h)) where
   -- a process that has been executed was due at once
   first-marks : (p : ℕ) → p < length h.design.processes → those_in h.deposited p ≡ is_at_once h.design h.cycles (updated_last h) p
@@ -241,7 +241,7 @@ module _ {h : Simulation} {time delta : ℕ} {held : FlatState} {records : List 
 
   pub postponed-keeps : (due' deposited' : List Bool) → length due' ≡ length waiting → ((p : ℕ) → those_in due' p ≡ those_in waiting p)
       → deposited' ≡ cleared h.deposited
-      → IsStateOf (record { design = h.design; cycles = h.cycles; phase = phase.Postponed; deposited = deposited' }) time delta held records due' waiting
+      → IsStateOf (record { design = h.design; cycles = h.cycles; phase = phase.Postponed; deposited = deposited' }) time delta held due' waiting
   postponed-keeps due' deposited' es eu ep =
       let d = h.design in
       let k = h.cycles in
@@ -256,7 +256,6 @@ module _ {h : Simulation} {time delta : ℕ} {held : FlatState} {records : List 
         nets_are = i.nets_are;
         owned_are = first-owned ∙ sym (merged-none (those_in (cleared h.deposited)) (results (in_postponed_phase h)) 0 (first_together d k s).owned
             (none-in h.deposited));
-        records_are = i.records_are;
         sized = length-map h.deposited (λ (b : Bool). false) ∙ i.sized;
         due_sized = es ∙ i.waiting_sized;
         waiting_sized = i.waiting_sized;
@@ -282,8 +281,8 @@ module _ {h : Simulation} {time delta : ℕ} {held : FlatState} {records : List 
           subst (λ (n : ℕ). IsReady (process_at h.design.processes p).body n (owned_at held.owned p))
           (rw none (or-none (those_in h.deposited p) (is_at_once h.design h.cycles (updated_last h) p) (sym q ∙ e))) r
 
-module _ {h : Simulation} {time delta : ℕ} {held : FlatState} {records : List Record} {due waiting : List Bool}
-    (i : IsStateOf h time delta held records due waiting) (done : IsExecuted h) where
+module _ {h : Simulation} {time delta : ℕ} {held : FlatState} {due waiting : List Bool}
+    (i : IsStateOf h time delta held due waiting) (done : IsExecuted h) where
   -- once all processes of the cycle have been executed, the state is that at the end of the cycle
   present-complete : held.owned ≡ (cycle_end_together h.design h.cycles (updated_last h)).owned
   present-complete =
@@ -326,6 +325,19 @@ module _ {h : Simulation} {time delta : ℕ} {held : FlatState} {records : List 
       ap (λ (o : Option State). (or_first d o).time)
       (one-updated ∙ ap (option_map (updated d (cycle_end_together d h.cycles (updated_last h)))) some)
 
+  -- its delta number
+  pub advanced-delta : (t δ : ℕ) → next_time (all_drivers held.owned) ≡ Some t → δ ≡ next_delta t time delta
+      → (state_of h.design (suc h.cycles)).delta ≡ δ
+  advanced-delta t δ some ed =
+      let d = h.design in
+      let x = cycle_end_together d h.cycles (updated_last h) in
+      let q : state_of d (suc h.cycles) ≡ updated d x t =
+      ap (or_first d) (one-updated ∙ ap (option_map (updated d x)) some) in
+      let xt : (updated_last h).time ≡ x.time = sym (executed_time d h.cycles (updated_last h)) in
+      let xd : (updated_last h).delta ≡ x.delta = sym (executed_delta d h.cycles (updated_last h)) in
+      ap (λ (w : State). w.delta) q
+      ∙ sym (ed ∙ (ap (λ (m : ℕ). next_delta t m delta) (i.time_is ∙ xt) ∙ ap (λ (m : ℕ). next_delta t x.time m) (i.delta_is ∙ xd)))
+
   pub held-is : held ≡ flat_state_of h.design (cycle_end_together h.design h.cycles (updated_last h))
   held-is =
       ap (λ (rows : List (List Source)). record { sources = rows; nets = held.nets; owned = held.owned }) i.sources_are
@@ -347,11 +359,30 @@ module _ {h : Simulation} {time delta : ℕ} {held : FlatState} {records : List 
       ∙ length-nets_updated (all_drivers (map (own_taken t) x.owned)) h.design.nets x.nets
       (ap length (executed_nets h.design h.cycles (updated_last h) ∙ sym i.nets_are) ∙ net-count i)
 
+  -- the record of the next cycle
+  pub advanced-recorded : (t : ℕ) → next_time (all_drivers held.owned) ≡ Some t → (δ : ℕ) (held' : FlatState) → δ ≡ next_delta t time delta
+      → ((design : Design) (s : State) → held ≡ flat_state_of design s → held' ≡ flat_state_of design (updated design s t))
+      → records_to h.design (suc h.cycles)
+      ≡ records_to h.design h.cycles ++ record { time = t; delta = δ; changes = changes_from 0 held'.nets } ∷ []
+  advanced-recorded t some δ held' ed el =
+      let d = h.design in
+      let x = cycle_end_together d h.cycles (updated_last h) in
+      let u = updated d x t in
+      let p : updated_in d (suc h.cycles) ≡ Some u = one-updated ∙ ap (option_map (updated d x)) some in
+      let l : held' ≡ flat_state_of d u = el d x held-is in
+      let xt : (updated_last h).time ≡ x.time = sym (executed_time d h.cycles (updated_last h)) in
+      let xd : (updated_last h).delta ≡ x.delta = sym (executed_delta d h.cycles (updated_last h)) in
+      let dl : δ ≡ u.delta = ed ∙ (ap (λ (m : ℕ). next_delta t m delta) (i.time_is ∙ xt) ∙ ap (λ (m : ℕ). next_delta t x.time m) (i.delta_is ∙ xd)) in
+      let one : Record = record { time = t; delta = δ; changes = changes_from 0 held'.nets } in
+      let r : one ≡ record { time = u.time; delta = u.delta; changes = changes_from 0 u.nets } =
+      ap (λ (m : ℕ). record { time = t; delta = m; changes = changes_from 0 held'.nets }) dl
+      ∙ ap (λ (w : FlatState). record { time = t; delta = u.delta; changes = changes_from 0 w.nets }) l in
+      one-recorded d i.processes h.cycles u p ∙ ap (λ w. records_to d h.cycles ++ w ∷ []) (sym r)
+
   pub advanced-keeps : (t : ℕ) → next_time (all_drivers held.owned) ≡ Some t → t ≤ largest_time
-      → (δ k : ℕ) (held' : FlatState) (records' : List Record) (postponed due' waiting' deposited' : List Bool)
+      → (δ k : ℕ) (held' : FlatState) (postponed due' waiting' deposited' : List Bool)
       → δ ≡ next_delta t time delta
       → ((design : Design) (s : State) → held ≡ flat_state_of design s → held' ≡ flat_state_of design (updated design s t))
-      → records' ≡ records ++ record { time = t; delta = δ; changes = changes_from 0 held'.nets } ∷ []
       → length due' ≡ length due → length waiting' ≡ length waiting
       → ((p : ℕ) → p < length h.design.processes → those_in postponed p ≡ (process_at h.design.processes p).postponed)
       → ((p : ℕ) → p < length due
@@ -359,8 +390,8 @@ module _ {h : Simulation} {time delta : ℕ} {held : FlatState} {records : List 
       → ((p : ℕ) → p < length due → those_in waiting' p
       ≡ (is_left h.phase (those_in waiting p) || (has_event_in held'.nets (process_at h.design.processes p).sensitivity && those_in postponed p)))
       → deposited' ≡ cleared h.deposited → k ≡ suc h.cycles
-      → IsStateOf (record { design = h.design; cycles = k; phase = phase.NonPostponed; deposited = deposited' }) t δ held' records' due' waiting'
-  advanced-keeps t some early δ k held' records' postponed due' waiting' deposited' ed el er es ew ef eu ev ep ek =
+      → IsStateOf (record { design = h.design; cycles = k; phase = phase.NonPostponed; deposited = deposited' }) t δ held' due' waiting'
+  advanced-keeps t some early δ k held' postponed due' waiting' deposited' ed el es ew ef eu ev ep ek =
       let d = h.design in
       let x = cycle_end_together d h.cycles (updated_last h) in
       let u = updated d x t in
@@ -372,10 +403,6 @@ module _ {h : Simulation} {time delta : ℕ} {held : FlatState} {records : List 
       let dl : δ ≡ u.delta = ed ∙ (ap (λ (m : ℕ). next_delta t m delta) (i.time_is ∙ xt) ∙ ap (λ (m : ℕ). next_delta t x.time m) (i.delta_is ∙ xd)) in
       let n : held'.nets ≡ (state_of d (suc h.cycles)).nets = ap (λ (w : FlatState). w.nets) l ∙ ap (λ (w : State). w.nets) (sym q) in
       let o : held'.owned ≡ map (own_taken t) held.owned = ap (λ (w : FlatState). w.owned) l ∙ ap (map (own_taken t)) (sym present-complete) in
-      let one : Record = record { time = t; delta = δ; changes = changes_from 0 held'.nets } in
-      let r : one ≡ record { time = u.time; delta = u.delta; changes = changes_from 0 u.nets } =
-      ap (λ (m : ℕ). record { time = t; delta = m; changes = changes_from 0 held'.nets }) dl
-      ∙ ap (λ (w : FlatState). record { time = t; delta = u.delta; changes = changes_from 0 w.nets }) l in
       rw (ek, ep) (record {
         there = p ∙ ap Some (sym q);
         phased = tt;
@@ -386,8 +413,6 @@ module _ {h : Simulation} {time delta : ℕ} {held : FlatState} {records : List 
         nets_are = n;
         owned_are = ap (λ (w : FlatState). w.owned) l ∙ (ap (λ (w : State). w.owned) (sym q)
             ∙ sym (merged-none (those_in (cleared h.deposited)) (results (after h)) 0 (state_of d (suc h.cycles)).owned (none-in h.deposited)));
-        records_are = er ∙ (ap (λ w. w ++ one ∷ []) i.records_are
-            ∙ (ap (λ w. records_to d h.cycles ++ w ∷ []) r ∙ sym (one-recorded d i.processes h.cycles u p)));
         sized = length-map h.deposited (λ (b : Bool). false) ∙ i.sized;
         due_sized = es ∙ i.due_sized;
         waiting_sized = ew ∙ i.waiting_sized;
@@ -440,8 +465,8 @@ module _ {h : Simulation} {time delta : ℕ} {held : FlatState} {records : List 
 
 -- ---- handing out
 
-module _ {h : Simulation} {time delta : ℕ} {held : FlatState} {records : List Record} {due waiting : List Bool}
-    (i : IsStateOf h time delta held records due waiting) where
+module _ {h : Simulation} {time delta : ℕ} {held : FlatState} {due waiting : List Bool}
+    (i : IsStateOf h time delta held due waiting) where
   -- the part of a process that has not been executed
   pub part-is : (p : ℕ) → those_in h.deposited p ≡ false → (views : List NetView) (own : Owned)
       → views ≡ map (net_at held.nets) (process_at h.design.processes p).reads → own ≡ owned_at held.owned p
@@ -483,8 +508,8 @@ ready-sooner body time own is = record {
       is.pending;
 }
 
-module _ {h : Simulation} {time delta : ℕ} {held : FlatState} {records : List Record} {due waiting : List Bool}
-    (i : IsStateOf h time delta held records due waiting)
+module _ {h : Simulation} {time delta : ℕ} {held : FlatState} {due waiting : List Bool}
+    (i : IsStateOf h time delta held due waiting)
     (p : ℕ) (lt : p < length h.design.processes) (out : those_in h.deposited p ≡ false) where
   pub ready-here : IsReady (process_at h.design.processes p).body time (owned_at held.owned p)
   ready-here =
@@ -503,7 +528,7 @@ module _ {h : Simulation} {time delta : ℕ} {held : FlatState} {records : List 
         owned = set held.owned p
             (executed (λ object. net_at held.nets (object_net process object)) time process.body.statements (owned_at held.owned p));
       }
-      → IsReady process.body time (owned_at held'.owned p) → IsStateOf (with_one h p) time delta held' records due waiting
+      → IsReady process.body time (owned_at held'.owned p) → IsStateOf (with_one h p) time delta held' due waiting
   executed-keeps process held' same resumed now is =
       let q = process_at h.design.processes p in
       let own : Owned = executed (λ object. net_at held.nets (object_net q object)) time q.body.statements (owned_at held.owned p) in
@@ -521,8 +546,8 @@ module _ {h : Simulation} {time delta : ℕ} {held : FlatState} {records : List 
 
 -- ---- jobs
 
-module _ {h : Simulation} {time delta : ℕ} {held : FlatState} {records : List Record} {due waiting : List Bool}
-    (i : IsStateOf h time delta held records due waiting) where
+module _ {h : Simulation} {time delta : ℕ} {held : FlatState} {due waiting : List Bool}
+    (i : IsStateOf h time delta held due waiting) where
   -- the part of a process that has not been executed makes a job
   pub job-fits : (p : ℕ) → p < length h.design.processes → is_due h p ≡ true → those_in h.deposited p ≡ false → (views : List NetView) (own : Owned)
       → views ≡ map (net_at held.nets) (process_at h.design.processes p).reads → own ≡ owned_at held.owned p
@@ -539,8 +564,8 @@ module _ {h : Simulation} {time delta : ℕ} {held : FlatState} {records : List 
 
 -- ---- results
 
-module _ {h : Simulation} {time delta : ℕ} {held : FlatState} {records : List Record} {due waiting : List Bool}
-    (i : IsStateOf h time delta held records due waiting)
+module _ {h : Simulation} {time delta : ℕ} {held : FlatState} {due waiting : List Bool}
+    (i : IsStateOf h time delta held due waiting)
     (job : Job) (o : IsOwn h job) where
   pub own-time : job.time ≡ time
   own-time = ap (λ (s : State). s.time) o.shows ∙ sym i.time_is
@@ -593,8 +618,8 @@ module _ {h : Simulation} {time delta : ℕ} {held : FlatState} {records : List 
       let same : map holds_bit x ≡ map holds_bit y = (own-ready f).variables ∙ sym (i.ready job.number d.number).variables in
       ap (λ (w : Owned). length w.variables) e ∙ (sym (length-map x holds_bit) ∙ (ap length same ∙ length-map y holds_bit))
 
-module _ {h : Simulation} {time delta : ℕ} {held : FlatState} {records : List Record} {due waiting : List Bool}
-    (i : IsStateOf h time delta held records due waiting)
+module _ {h : Simulation} {time delta : ℕ} {held : FlatState} {due waiting : List Bool}
+    (i : IsStateOf h time delta held due waiting)
     (job : Job) where
   -- a job of these is the process's own
   pub fits-own : those_in h.deposited job.number ≡ false → job.time ≡ time → job.process ≡ process_at h.design.processes job.number
@@ -637,14 +662,14 @@ first-ready d are p lt =
     })
 
 -- what is held at first is that of the simulation at its start
-pub begins : (d : Design) (k : ℕ) (held : FlatState) (records : List Record) (due waiting deposited : List Bool) → length d.nets ≤ most
+pub begins : (d : Design) (k : ℕ) (held : FlatState) (due waiting deposited : List Bool) → length d.nets ≤ most
     → AreOwned (length d.nets) 0 0 d.processes d.drivers
     → All IsProcess d.processes → k ≡ 0
-    → held ≡ flat_state_of d (first_state d) → records ≡ records_to d 0 → AreParted d due waiting
+    → held ≡ flat_state_of d (first_state d) → AreParted d due waiting
     → deposited ≡ replicate (length d.processes) false
-    → IsStateOf (record { design = d; cycles = k; phase = phase.NonPostponed; deposited = deposited }) 0 0 held records due waiting
-begins d k held records due waiting deposited few are all e₀ e er eu ep =
-    rw (e₀, e, er, ep) (record {
+    → IsStateOf (record { design = d; cycles = k; phase = phase.NonPostponed; deposited = deposited }) 0 0 held due waiting
+begins d k held due waiting deposited few are all e₀ e eu ep =
+    rw (e₀, e, ep) (record {
       there = refl;
       phased = tt;
       time_is = refl;
@@ -655,7 +680,6 @@ begins d k held records due waiting deposited few are all e₀ e er eu ep =
       owned_are = sym (merged-none (those_in (replicate (length d.processes) false))
           (results (record { design = d; cycles = 0; phase = phase.NonPostponed; deposited = replicate (length d.processes) false })) 0 (first_state d).owned
           (none-in-replicate (length d.processes)));
-      records_are = refl;
       sized = length-replicate (length d.processes) false;
       due_sized = eu.due_sized;
       waiting_sized = eu.waiting_sized;
@@ -683,8 +707,8 @@ complete-where-none h none p lt resumed = go (those_in h.deposited p) refl
 
 -- ---- waiting processes
 
-module _ {h : Simulation} {time delta : ℕ} {held : FlatState} {records : List Record} {due waiting : List Bool}
-    (i : IsStateOf h time delta held records due waiting) where
+module _ {h : Simulation} {time delta : ℕ} {held : FlatState} {due waiting : List Bool}
+    (i : IsStateOf h time delta held due waiting) where
   -- if none is marked, none waits
   pub none-waiting : ((p : ℕ) → those_in waiting p ≡ false) → waiting_now h.design h.cycles (updated_last h) ≡ []
   none-waiting none =

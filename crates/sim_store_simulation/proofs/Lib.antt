@@ -6,9 +6,8 @@ pub mod Listing
 pub mod Readiness
 pub mod Boxes
 pub mod Walks
-pub mod Along
 pub mod Listed
 pub mod Assignments
 pub mod Crossing
-pub mod Recorded
 pub mod Reading
+pub mod Recorded

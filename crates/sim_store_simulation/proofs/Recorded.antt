@@ -1,52 +1,53 @@
--- The record of the next cycle comes after those so far.
-use Rattle.std.proofs.Common.{ℕ, zero, suc, ◌+◌, ◌≡◌, ◌==◌, eqb, if◌then◌else◌, Bool, true, false, List, Option, None, Some}
-use Rattle.std.proofs.Common.{refl, ap, sym, ◌∙◌, subst, arith}
-use Rattle.std.specs.List.{All}
+-- A log goes on with a simulation: the record of the next cycle comes after those so far.
+use Rattle.std.proofs.Common.{ℕ, suc, ◌+◌, ◌≡◌, ◌==◌, eqb, if◌then◌else◌, Bool, true, false, List, [], ◌∷◌, ◌++◌, Some}
+use Rattle.std.proofs.Common.{refl, ap, sym, ◌∙◌, arith}
 use Rattle.std.proofs.lemmas.Bool.Decides.{nat_tests}
 use Rattle.sim_flat_design.specs.Designs.{Design}
-use Rattle.sim_flat_design.specs.Processes.{IsProcess}
 use Rattle.sim_standard.specs.declared.record.Record.{Record}
-use Rattle.sim_standard.specs.State.{State}
-use Rattle.sim_standard.specs.Records.{records_to}
-use Rattle.sim_standard.specs.Midway.{updated_in}
-use Rattle.sim_standard.proofs.Names.{record_of}
-use Rattle.sim_standard.proofs.Records.{one-recorded}
-use Rattle.sim_store_state.specs.FlatState.{FlatState}
-use Rattle.sim_store_state.specs.Log.{last_record, IsNext}
-use Rattle.sim_store_simulation.specs.Simulation.{IsStateOf, Simulation, updated_last}
-use Rattle.sim_store_state.proofs.Logged.{last-pushed}
-use Rattle.sim_store_simulation.proofs.Going.{cycle-count}
+use Rattle.sim_standard.specs.Drivers.{next_time}
+use Rattle.sim_standard.specs.State.{State, all_drivers}
+use Rattle.sim_standard.specs.Cycle.{updated}
+use Rattle.sim_standard.specs.Records.{changes_from, records_to}
+use Rattle.sim_store_state.specs.FlatState.{FlatState, flat_state_of}
+use Rattle.sim_store_state.specs.Log.{IsNext, IsRecorded, IsSameLog, Logged}
+use Rattle.sim_store_simulation.specs.Simulation.{IsExecuted, IsStateOf, IsWhole, Simulation, place_of}
+use Rattle.sim_store_simulation.specs.declared.phase.Phase.TheVariants as phase
+use Rattle.sim_store_simulation.proofs.Going.{advanced-delta, advanced-recorded, advanced-time, state_of}
 
--- the first record has the time and the delta number of the first state
-abbrev is-first : Option State → Type 0
-is-first None = Unit {0}
-is-first (Some s) = (0 ≡ s.time) × (0 ≡ s.delta)
-
--- the last record has the time and the delta number of the last cycle
-last-recorded : (d : Design) → All IsProcess d.processes → (k : ℕ) (u : State) → updated_in d k ≡ Some u
-    → ((last_record (records_to d k)).time ≡ u.time) × ((last_record (records_to d k)).delta ≡ u.delta)
-unfolding records_to
-last-recorded d is zero u e = subst is-first e (refl, refl)
-last-recorded d is (suc k) u e =
-    let last = ap last_record (one-recorded d is k u e) ∙ last-pushed (records_to d k) (record_of u) in
-    (ap (λ (r : Record). r.time) last, ap (λ (r : Record). r.delta) last)
-
--- so a record of a cycle after it comes next
-pub next-recorded : {h : Simulation} {time delta : ℕ} {held : FlatState} {records : List Record} {due waiting : List Bool}
-    (i : IsStateOf h time delta held records due waiting)
-    (to next : ℕ) → next ≡ (if to == time then delta + 1 else 0) → IsNext records to next
-next-recorded {h} {time} {delta} {records = records} i to next e = go (eqb to time) refl e
+-- after a record of the last cycle, that of the next one may come
+pub next-placed : {h : Simulation} {time delta : ℕ} {held : FlatState} {due waiting : List Bool} (i : IsStateOf h time delta held due waiting)
+    (last : ℕ × ℕ) → last ≡ place_of h → (to next : ℕ) → next ≡ (if to == time then delta + 1 else 0) → IsNext last to next
+next-placed {h} {time} {delta} i last placed to next e = go (eqb to time) refl e
   where
-    last : ((last_record records).time ≡ time) × ((last_record records).delta ≡ delta)
-    last =
-        let same = ap last_record i.records_are in
-        let known = last-recorded h.design i.processes h.cycles (updated_last h) i.there in
-        (ap (λ (r : Record). r.time) same ∙ (known.0 ∙ sym i.time_is), ap (λ (r : Record). r.delta) same ∙ (known.1 ∙ sym i.delta_is))
+    at : last.0 ≡ time
+    at = ap (λ (p : ℕ × ℕ). p.0) placed ∙ sym i.time_is
 
-    go : (b : Bool) → eqb to time ≡ b → next ≡ (if b then delta + 1 else 0) → IsNext records to next
+    of : last.1 ≡ delta
+    of = ap (λ (p : ℕ × ℕ). p.1) placed ∙ sym i.delta_is
+
+    go : (b : Bool) → eqb to time ≡ b → next ≡ (if b then delta + 1 else 0) → IsNext last to next
     go true t a = record {
-      some = λ w. omega (arith, cycle-count i);
-      time_is = λ w. let at : to ≡ time = grind (arith, nat_tests) in at ∙ sym last.0;
-      delta_is = λ w. omega (arith, a, last.1);
+      time_is = λ w. let same : to ≡ time = grind (arith, nat_tests) in same ∙ sym at;
+      delta_is = λ w. omega (arith, a, of);
     }
-    go false t a = record { some = λ w. absurd (w a); time_is = λ w. absurd (w a); delta_is = λ w. absurd (w a) }
+    go false t a = record { time_is = λ w. absurd (w a); delta_is = λ w. absurd (w a) }
+
+-- with it, the log has all records
+pub continued : {h : Simulation} {time delta : ℕ} {held : FlatState} {due waiting : List Bool} (i : IsStateOf h time delta held due waiting)
+    (done : IsExecuted h) (t : ℕ) → next_time (all_drivers held.owned) ≡ Some t → (δ k : ℕ) (held' : FlatState) (deposited : List Bool)
+    → δ ≡ (if t == time then delta + 1 else 0)
+    → ((design : Design) (s : State) → held ≡ flat_state_of design s → held' ≡ flat_state_of design (updated design s t)) → k ≡ suc h.cycles
+    → (old reserved new : Logged) → IsWhole h old → IsSameLog old reserved
+    → IsRecorded reserved new (record { time = t; delta = δ; changes = changes_from 0 held'.nets })
+    → IsWhole (record { design = h.design; cycles = k; phase = phase.NonPostponed; deposited = deposited }) new
+continued i done t some δ k held' deposited ed el ek old reserved new whole same r =
+    let one : Record = record { time = t; delta = δ; changes = changes_from 0 held'.nets } in
+    rw ek (record {
+      records =
+          r.records ∙ (ap (λ (w : List Record). w ++ one ∷ []) (same.records ∙ whole.records) ∙ sym (advanced-recorded i done t some δ held' ed el));
+      last = r.last ∙ λ j. (sym (advanced-time i done t some) j, sym (advanced-delta i done t δ some ed) j);
+    })
+
+-- without one, it still has all
+pub whole-kept : {h g : Simulation} {log log' : Logged} → IsWhole h log → g ≡ h → IsSameLog log log' → IsWhole g log'
+whole-kept w e s = rw e (record { records = s.records ∙ w.records; last = s.last ∙ w.last })

@@ -14,6 +14,7 @@ use Rattle.sim_exec_code.specs.Codes.{Coded, AreCodesOf, FitsAll}
 use Rattle.sim_standard.specs.declared.record.Record.{Record}
 use Rattle.sim_store_nets.specs.Nets.{sources_of}
 use Rattle.sim_store_state.specs.FlatState.{FlatState, flat_state_of}
+use Rattle.sim_store_state.specs.Log.{Logged}
 use Rattle.sim_store_state.specs.Sensitive.{AreSensitive}
 use Rattle.sim_standard.specs.Cycle.{is_at_once, is_waiting, first_executed, is_delta_next, processes_where}
 use Rattle.sim_standard.specs.Cycle.{Following, CycleAt, NothingPending, PostponedDelta, next_in}
@@ -109,7 +110,7 @@ AreRising h = (p : ℕ) → p < length h.design.processes
     → IsReady (process_at h.design.processes p).body (pending_from h (reached h).time p) (owned_at (present h).owned p)
 
 -- This is what the simulation holds.
-pub record IsStateOf (h : Simulation) (time delta : ℕ) (held : FlatState) (records : List Record) (due waiting : List Bool) : Type 0 where
+pub record IsStateOf (h : Simulation) (time delta : ℕ) (held : FlatState) (due waiting : List Bool) : Type 0 where
   pub there : updated_in h.design h.cycles ≡ Some (updated_last h)
   pub phased : IsPhase h.phase h.design h.cycles (updated_last h)
   pub time_is : time ≡ (reached h).time
@@ -118,7 +119,6 @@ pub record IsStateOf (h : Simulation) (time delta : ℕ) (held : FlatState) (rec
   pub sources_are : held.sources ≡ sources_of h.design.nets
   pub nets_are : held.nets ≡ (reached h).nets
   pub owned_are : held.owned ≡ (present h).owned
-  pub records_are : records ≡ records_to h.design h.cycles
   pub sized : length h.deposited ≡ length h.design.processes
   pub due_sized : length due ≡ length h.design.processes
   pub waiting_sized : length waiting ≡ length h.design.processes
@@ -129,6 +129,15 @@ pub record IsStateOf (h : Simulation) (time delta : ℕ) (held : FlatState) (rec
   pub ran : (p : ℕ) → those_in h.deposited p ≡ true → is_due h p ≡ true
   pub ready : (p : ℕ) → p < length h.design.processes
       → IsReady (process_at h.design.processes p).body (pending_from h time p) (owned_at held.owned p)
+
+-- the time and the delta number of the last cycle
+abbrev pub place_of : Simulation → ℕ × ℕ
+place_of h = ((reached h).time, (reached h).delta)
+
+-- This log has all records so far.
+pub record IsWhole (h : Simulation) (log : Logged) : Type 0 where
+  pub records : log.records ≡ records_to h.design h.cycles
+  pub last : log.last ≡ place_of h
 
 -- no process is marked
 abbrev pub cleared : List Bool → List Bool
@@ -186,25 +195,24 @@ pub record AreParted (design : Design) (due waiting : List Bool) : Type 0 where
   pub due_are : (p : ℕ) → p < length design.processes → those_in due p ≡ not (process_at design.processes p).postponed
   pub waiting_are : (p : ℕ) → p < length design.processes → those_in waiting p ≡ (process_at design.processes p).postponed
 
--- What a simulation holds at first: what is compiled, the first state with its record, each process due or waiting and none executed, and no events of any net.
-pub record IsPrepared (design : Design) (sensitive : List (List ℕ)) (codes : Coded) (frame : ℕ) (held : FlatState) (records : List Record)
+-- What a simulation holds at first: what is compiled, the first state, each process due or waiting and none executed, and no events of any net.
+pub record IsPrepared (design : Design) (sensitive : List (List ℕ)) (codes : Coded) (frame : ℕ) (held : FlatState)
     (due deposited : List Bool) (postponed waiting : List Bool) (totals : List ℕ) : Type 0 where
   pub compiled : AreCompiled design sensitive codes frame
   pub marked : ArePostponed design postponed
   pub held_is : held ≡ flat_state_of design (first_state design)
-  pub records_is : records ≡ records_to design 0
   pub parted : AreParted design due waiting
   pub deposited_is : deposited ≡ replicate (length design.processes) false
   pub totals_is : totals ≡ replicate (length design.nets) 0
 
--- What a simulation holds: what was compiled, the state, records and marks, and the totals of nets.
+-- What a simulation holds: what was compiled, the state and marks, and the totals of nets.
 pub record IsSimulation (h : Simulation) (sensitive : List (List ℕ)) (codes : Coded) (frame : ℕ) (time delta : ℕ) (held : FlatState)
-    (records : List Record) (due marks postponed waiting : List Bool) (totals : List ℕ) : Type 0 where
+    (due marks postponed waiting : List Bool) (totals : List ℕ) : Type 0 where
   pub compiled : AreCompiled h.design sensitive codes frame
   pub marked : ArePostponed h.design postponed
-  pub state : IsStateOf h time delta held records due waiting
+  pub state : IsStateOf h time delta held due waiting
   pub marks_sized : length marks ≡ length h.design.processes
-  pub counts : AreTotals (length h.design.nets) records totals
+  pub counts : AreTotals (length h.design.nets) (records_to h.design h.cycles) totals
 
 -- The job has the process with its number, and the part of the state that this process sees.
 pub record IsOwn (h : Simulation) (job : Job) : Type 0 where

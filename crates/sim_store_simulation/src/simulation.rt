@@ -10,25 +10,24 @@ ghost use Rattle.sim_exec_code.specs.Codes.{AreCodesOf};
 ghost use Rattle.sim_store_state.specs.InTurn as turn;
 ghost use Rattle.sim_standard.specs.Initialization.{first_state};
 ghost use Rattle.sim_store_state.specs.FlatState.{flat_state_of};
-ghost use Rattle.sim_standard.specs.Records.{IsNamed, event_count, records_to, values_of};
+ghost use Rattle.sim_standard.specs.Records.{IsNamed, all_changes, event_count, records_to};
 ghost use Rattle.sim_standard.specs.State.{driver_values, net_at, owned_at};
 ghost use Rattle.sim_logic.specs.Time.{largest_time};
 ghost use Rattle.sim_standard.specs.Agreement.{total_of, value_by};
-ghost use Rattle.sim_store_simulation.specs.Contents.{AreFirst, HasOneMore, IsExecutable, IsOf, IsWith, simulation_of, simulation_with};
+ghost use Rattle.sim_store_simulation.specs.Contents.{AreFirst, IsAtStart, IsOf, IsWith, simulation_of, unmarked_of};
 ghost use Rattle.sim_store_simulation.specs.Simulation as spec;
 ghost use Rattle.sim_standard.specs.Cycle.{CycleAt};
 ghost use Rattle.sim_standard.specs.Midway.{updated_in};
 ghost use Rattle.sim_store_simulation.specs.declared.phase.Phase.TheVariants as phase;
 
 use crate::due::Due;
-use crate::history::records_from;
 use crate::phase::{Phase, Upcoming};
 use crate::waiting::Waiting;
 use sim_containers::{NumberSet, RisingRows};
 use sim_exec::{Codes, Done, Frame, Job, Results};
 use sim_flat_design::{Design, Process};
 use sim_logic::Logic;
-use sim_store_state::{FlatState, Log, Record, sensitive};
+use sim_store_state::{FlatState, Log, sensitive};
 use std::alloc::{AllocError, Global};
 use std::marker::Model;
 
@@ -111,15 +110,15 @@ pub struct Compiled {
 }
 
 /// All of a simulation besides its design, without its invariant, which need not hold while
-/// processes are being executed: the time (in femtoseconds) and delta number of the last cycle,
-/// the compiled design, the state, the log, and marks of processes and nets.
+/// processes are being executed: the number of cycles, the time (in femtoseconds) and delta number
+/// of the last one, the compiled design, the state, and marks of processes and nets.
 #[derive(Drop)]
 pub struct Contents {
+    pub cycles: usize,
     pub time: u64,
     pub delta: u64,
     pub compiled: Compiled,
     pub state: FlatState,
-    pub log: Log,
     /// Which processes are now executed.
     pub phase: Phase,
     pub due: Due,
@@ -130,33 +129,16 @@ pub struct Contents {
     pub totals: Vec<u64>,
 }
 
-/// A log with the record of the first state of a design with this number of nets.
-fn first_log(alloc: Global, state: &FlatState, nets: usize) -> Result<Log, AllocError>
-    requires few { nets < 2 ^ 32 }
-    requires nets { length state.now.nets ≡ nets }
-    ensures { IfOk result (λ l. l.records ≡ record { time = 0; delta = 0; changes = values_of state.now.nets } ∷ []) }
+/// A log with the record of the first state of a design.
+fn first_log(alloc: Global, state: &FlatState, design: &Design) -> Result<Log, AllocError>
+    requires { state.now ≡ flat_state_of design.now (first_state design.now) }
+    ensures records { IfOk result (λ l. l.records ≡ records_to design.now 0) }
+    ensures last { IfOk result (λ l. l.last ≡ (0, 0)) }
 {
     let mut log = Log::new(alloc);
-    log.reserve(nets)?;
+    log.reserve(design.nets().len())?;
     state.record_all(&mut log, 0, 0);
     Ok(log)
-}
-
-/// The state and the log at the start of a run.
-#[derive(Drop)]
-struct Start {
-    state: FlatState,
-    log: Log,
-}
-
-/// The first state of a design, with its record.
-fn started(alloc: Global, design: &Design) -> Result<Start, AllocError>
-    ensures state { IfOk result (λ s. s.state ≡ flat_state_of design.now (first_state design.now)) }
-    ensures log { IfOk result (λ s. s.log.records ≡ record { time = 0; delta = 0; changes = values_of s.state.nets } ∷ []) }
-{
-    let state = FlatState::first(alloc, design)?;
-    let log = first_log(alloc, &state, design.nets().len())?;
-    Ok(Start { state, log })
 }
 
 /// The processes of a design that are executed first, and the postponed ones, which wait.
@@ -214,19 +196,19 @@ fn compile(alloc: Global, design: &Design) -> Result<Compiled, AllocError>
 }
 
 /// All of these together, at time 0.
-fn joined(marks: FirstMarks, compiled: Compiled, start: Start) -> Contents
-    ensures start { (result.time ≡ 0) × (result.delta ≡ 0) × (result.phase ≡ phase.NonPostponed) × (result.all_executed ≡ false) }
+fn joined(marks: FirstMarks, compiled: Compiled, state: FlatState) -> Contents
+    ensures start { IsAtStart result }
     ensures compiled { result.compiled ≡ compiled }
-    ensures state { (result.state ≡ start.state) × (result.log ≡ start.log) }
+    ensures state { result.state ≡ state }
     ensures marks { (result.due ≡ marks.due) × (result.waiting ≡ marks.waiting) }
     ensures none { (result.deposited ≡ marks.deposited) × (result.totals ≡ marks.totals) }
 {
     Contents {
+        cycles: 0,
         time: 0,
         delta: 0,
         compiled,
-        state: start.state,
-        log: start.log,
+        state,
         phase: Phase::NonPostponed,
         due: marks.due,
         waiting: marks.waiting,
@@ -236,22 +218,21 @@ fn joined(marks: FirstMarks, compiled: Compiled, start: Start) -> Contents
     }
 }
 
-/// The contents of the simulation of a design at first: the compiled design, the first state with
-/// its record, the processes that are due, and no event of any net.
-#[tactic(auto, unfolding(sim_standard::specs::Records::records_to))]
+/// The contents of the simulation of a design at first: the compiled design, the first state, the
+/// processes that are due, and no event of any net.
 fn prepared(alloc: Global, design: &Design) -> Result<Contents, AllocError>
-    ensures start { IfOk result (λ m. (m.time ≡ 0) × (m.delta ≡ 0) × (m.phase ≡ phase.NonPostponed) × (m.all_executed ≡ false)) }
+    ensures start { IfOk result IsAtStart }
     ensures contents { IfOk result (λ m. AreFirst design.now m) }
 {
     let marks = marks(alloc, design)?;
     let compiled = compile(alloc, design)?;
-    let start = started(alloc, design)?;
-    Ok(joined(marks, compiled, start))
+    let state = FlatState::first(alloc, design)?;
+    Ok(joined(marks, compiled, state))
 }
 
 /// The same in a box, so that it stays in place when the simulation is moved.
 fn boxed(alloc: Global, design: &Design) -> Result<Box<Contents>, AllocError>
-    ensures start { IfOk result (λ m. (m.value.time ≡ 0) × (m.value.delta ≡ 0) × (m.value.phase ≡ phase.NonPostponed) × (m.value.all_executed ≡ false)) }
+    ensures start { IfOk result (λ m. IsAtStart m.value) }
     ensures contents { IfOk result (λ m. AreFirst design.now m.value) }
 {
     let contents = prepared(alloc, design)?;
@@ -259,17 +240,29 @@ fn boxed(alloc: Global, design: &Design) -> Result<Box<Contents>, AllocError>
     Ok(contents)
 }
 
-/// The same, with what the processes own divided into about this many shares.
+/// The same, with a log of the first state.
+fn begun(alloc: Global, design: &Design) -> Result<(Box<Contents>, Log), AllocError>
+    ensures start { IfOk result (λ r. IsAtStart r.0.value) }
+    ensures contents { IfOk result (λ r. AreFirst design.now r.0.value) }
+    ensures records { IfOk result (λ r. r.1.records ≡ records_to design.now 0) }
+    ensures last { IfOk result (λ r. r.1.last ≡ (0, 0)) }
+{
+    let contents = boxed(alloc, design)?;
+    let log = first_log(alloc, &contents.state, design)?;
+    Ok((contents, log))
+}
+
+/// The contents, with what the processes own divided into about this many shares.
 fn divided(alloc: Global, contents: Contents, shares: usize) -> Result<Contents, AllocError>
     ensures { IfOk result (λ m. m ≡ contents) }
 {
     let state = contents.state.divide(alloc, shares)?;
     Ok(Contents {
+        cycles: contents.cycles,
         time: contents.time,
         delta: contents.delta,
         compiled: contents.compiled,
         state,
-        log: contents.log,
         phase: contents.phase,
         due: contents.due,
         waiting: contents.waiting,
@@ -292,26 +285,17 @@ fn begin_phase(contents: &mut Contents, phase: Phase)
     contents.all_executed = false;
 }
 
-/// Executes in place a due process that has not been executed in this phase. It is not marked.
-fn execute(
-    alloc: Global,
-    design: &Design,
-    contents: &mut Contents,
-    number: usize,
-) -> Result<(), AllocError>
-    requires { IsExecutable design.now contents.old number }
-    ensures kept { contents.new ≡ record contents.old { compiled = contents.new.compiled; state = contents.new.state } }
-    ensures step { OnOk result (HasOneMore design.now contents.old contents.new number) }
+/// The due processes that are not marked, in rising order.
+fn unmarked(alloc: Global, due: &Due, marked: &NumberSet) -> Result<Vec<usize>, AllocError>
+    ensures { IfOk result (λ v. v.items ≡ unmarked_of due.now marked.now) }
 {
-    let compiled = &mut contents.compiled;
-    contents.state.execute(
-        alloc,
-        design.processes(),
-        &[number],
-        contents.time,
-        &compiled.codes,
-        &mut compiled.frame,
-    )
+    let mut numbers = Vec::new(alloc);
+    for number in due.numbers() {
+        if !marked.contains(*number) {
+            numbers.push(*number)?;
+        }
+    }
+    Ok(numbers)
 }
 
 /// Executes all due processes, none of which has been executed in this phase, in place and in
@@ -337,30 +321,8 @@ fn execute_listed(alloc: Global, design: &Design, contents: &mut Contents) -> Re
     Ok(())
 }
 
-/// Executes in place a due process that is not marked, and marks it.
-fn execute_marked(
-    alloc: Global,
-    design: &Design,
-    contents: &mut Contents,
-    number: usize,
-) -> Result<(), AllocError>
-    requires of { IsWith design.now contents.old contents.old.deposited }
-    requires at { number < length design.now.processes }
-    requires due { spec.those_in contents.old.due number ≡ true }
-    requires fresh { spec.those_in contents.old.deposited number ≡ false }
-    ensures of { OnOk result (IsWith design.now contents.new contents.new.deposited) }
-    ensures one { OnOk result (simulation_with design.now contents.new contents.new.deposited
-        ≡ spec.with_one (simulation_with design.now contents.old contents.old.deposited) number) }
-    ensures same { contents.new.all_executed ≡ contents.old.all_executed }
-{
-    execute(alloc, design, contents, number)?;
-    contents.deposited.insert(number);
-    Ok(())
-}
-
-/// Executes all due processes that have not been executed in this phase, in place and in rising
-/// order. Some may have been executed, and are marked.
-fn execute_missing(
+/// The same where some have been executed, and are marked.
+fn execute_unmarked(
     alloc: Global,
     design: &Design,
     contents: &mut Contents,
@@ -372,11 +334,17 @@ fn execute_missing(
         ≡ spec.with_marks (simulation_of design.now contents.old) (simulation_of design.now contents.new).deposited) }
     ensures complete { OnOk result (spec.IsComplete (simulation_of design.now contents.new)) }
 {
-    let mut from = 0;
-    while let Some(number) = contents.due.next_beside(&contents.deposited, from) {
-        execute_marked(alloc, design, contents, number)?;
-        from = number + 1;
-    }
+    let numbers = unmarked(alloc, &contents.due, &contents.deposited)?;
+    let compiled = &mut contents.compiled;
+    contents.state.execute(
+        alloc,
+        design.processes(),
+        numbers.as_slice(),
+        contents.time,
+        &compiled.codes,
+        &mut compiled.frame,
+    )?;
+    contents.all_executed = true;
     Ok(())
 }
 
@@ -395,7 +363,7 @@ fn execute_all(alloc: Global, design: &Design, contents: &mut Contents) -> Resul
     if contents.deposited.is_empty() {
         execute_listed(alloc, design, contents)
     } else {
-        execute_missing(alloc, design, contents)
+        execute_unmarked(alloc, design, contents)
     }
 }
 
@@ -436,23 +404,25 @@ impl Simulation {
     ghost use Rattle.std.specs.Prelude.{◌≡◌, ◌↔◌, IsTrue, Some, false, length, replicate};
     ghost use Rattle.std.specs.Prelude.{IfErr, IfOk, IfSome, OnOk, OnErr, MatchOption, MatchResult};
 
-    /// The simulation of a design at its start: the initialization is recorded (14.7.5.2), and each
-    /// process is due or, if it is postponed, waits. If allocation fails, the design is returned.
-    pub fn begin(alloc: Global, design: Design) -> Result<Simulation, (AllocError, Design)>
-        ensures ok { IfOk result (λ s. s ≡ record {
+    /// The simulation of a design at its start, and a log in which the initialization is recorded
+    /// (14.7.5.2): each process is due or, if it is postponed, waits. If allocation fails, the design
+    /// is returned.
+    pub fn begin(alloc: Global, design: Design) -> Result<(Simulation, Log), (AllocError, Design)>
+        ensures ok { IfOk result (λ r. r.0 ≡ record {
           design = design;
           cycles = 0;
           phase = phase.NonPostponed;
           deposited = replicate (length design.processes) false;
         }) }
+        ensures log { IfOk result (λ r. spec.IsWhole r.0 r.1) }
         ensures err { IfErr result (λ e. e.1 ≡ design) }
     {
         let _nets = design.nets();
         let _drivers = design.drivers();
         are_processes(design.processes());
-        match boxed(alloc, &design) {
+        match begun(alloc, &design) {
             Err(error) => Err((error, design)),
-            Ok(contents) => Ok(Simulation { design, contents }),
+            Ok((contents, log)) => Ok((Simulation { design, contents }, log)),
         }
     }
 
@@ -466,7 +436,7 @@ impl Simulation {
         let part = contents.state.part(alloc, number, process.reads())?;
         let process = process.try_copy()?;
         Ok(Job::new(
-            contents.log.len() - 1,
+            contents.cycles,
             number,
             contents.time,
             process,
@@ -516,14 +486,7 @@ impl Simulation {
     pub fn cycles(&self) -> usize
         ensures { result ≡ self.now.cycles }
     {
-        self.contents.log.len() - 1
-    }
-
-    /// The number of records: one of the initialization, and one of each cycle.
-    pub fn records(&self) -> usize
-        ensures { result ≡ suc self.now.cycles }
-    {
-        self.contents.log.len()
+        self.contents.cycles
     }
 
     /// Whether this phase executes the process with a number.
@@ -584,37 +547,34 @@ impl Simulation {
     }
 
     /// Begins the next cycle, at this time in femtoseconds, once all processes of the last one have
-    /// been executed: updates drivers and nets, and resumes processes (14.7.5.3 a, c, d, f.2). If
-    /// allocation fails, nothing changes.
-    pub fn go_on(&mut self, time: u64) -> Result<(), AllocError>
+    /// been executed: updates drivers and nets, and resumes processes (14.7.5.3 a, c, d, f.2). The
+    /// log gets its record. If allocation fails, nothing changes.
+    pub fn go_on(&mut self, time: u64, log: &mut Log) -> Result<(), AllocError>
         requires executed { spec.IsExecuted self.old }
         requires next { spec.next_after self.old ≡ Some (CycleAt time) }
         requires early { time ≤ largest_time }
         requires bound { self.old.cycles < 2 ^ 32 }
-        ensures ok { OnOk result (self.new ≡ spec.after self.old) }
-        ensures at { OnOk result ((spec.reached self.new).time ≡ time) }
+        requires log { spec.IsWhole self.old log.old }
+        ensures ok { OnOk result ((self.new ≡ spec.after self.old) × ((spec.reached self.new).time ≡ time)) }
+        ensures log { spec.IsWhole self.new log.new }
         ensures err { OnErr result (self.new ≡ self.old) }
     {
         let nets = self.design.nets().len();
         let contents = &mut *self.contents;
-        contents.log.reserve(nets)?;
+        log.reserve(nets)?;
+        contents.cycles += 1;
         // a) The time becomes that of the next cycle.
         contents.delta = next_delta(time, contents.time, contents.delta);
         contents.time = time;
         // c), d) Active drivers take their transactions, and their nets are updated.
-        contents.state.update(
-            time,
-            contents.delta,
-            &mut contents.log,
-            contents.totals.as_mut_slice(),
-        );
+        contents
+            .state
+            .update(time, contents.delta, log, contents.totals.as_mut_slice());
         leave(&mut contents.waiting, contents.phase);
         // f.2) Processes sensitive to a net with an event resume.
-        contents.due.find(
-            &contents.log,
-            &contents.compiled.sensitive,
-            &mut contents.waiting,
-        );
+        contents
+            .due
+            .find(log, &contents.compiled.sensitive, &mut contents.waiting);
         begin_phase(contents, Phase::NonPostponed);
         Ok(())
     }
@@ -743,28 +703,21 @@ impl Simulation {
         self.contents.totals.get(net).copied()
     }
 
-    /// The number of events in the cycles after the initialization.
-    pub fn events(&self) -> u64
+    /// The number of events in the cycles after the initialization, by the number of changes in all
+    /// records.
+    pub fn events(&self, changes: usize) -> u64
+        requires { changes ≡ length (all_changes (records_to self.now.design self.now.cycles)) }
         ensures { result ≡ event_count (records_to self.now.design self.now.cycles) }
     {
-        (self.contents.log.count() - self.design.nets().len()) as u64
+        (changes - self.design.nets().len()) as u64
     }
 
-    /// The log of all records.
-    pub fn history(&self) -> &Log
-        ensures records { result.now.records ≡ records_to self.now.design self.now.cycles }
-        ensures named { All (IsNamed (length self.now.design.nets)) result.now.records }
+    /// Shows that there is a record of the initialization and one of each cycle, and that each change
+    /// is of a net.
+    pub fn are_records(&self)
+        ensures count { length (records_to self.now.design self.now.cycles) ≡ suc self.now.cycles }
+        ensures named { All (IsNamed (length self.now.design.nets)) (records_to self.now.design self.now.cycles) }
     {
-        &self.contents.log
-    }
-
-    /// The records from a number on.
-    pub fn records_from(&self, alloc: Global, number: usize) -> Result<Vec<Record>, AllocError>
-        requires { number ≤ suc self.now.cycles }
-        ensures records { IfOk result (λ v. v.items ≡ drop number (records_to self.now.design self.now.cycles)) }
-        ensures named { IfOk result (λ v. All (IsNamed (length self.now.design.nets)) v.items) }
-    {
-        let found = records_from(alloc, &self.contents.log, number)?;
-        Ok(found)
+        let _contents = &*self.contents;
     }
 }

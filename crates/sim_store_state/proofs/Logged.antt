@@ -1,6 +1,6 @@
 -- Laws of flat records.
 use Rattle.std.proofs.Common.{ℕ, zero, suc, ◌+◌, ◌-◌, ◌<◌, ◌≤◌, ◌≡◌, ◌≢◌, ◌==◌, ◌++◌, Bool, true, false, List, [], ◌∷◌, length, get_or, set, take, map}
-use Rattle.std.proofs.Common.{refl, ap, sym, ◌∙◌, arith, append_assoc, append-nil, length-append}
+use Rattle.std.proofs.Common.{refl, ap, sym, subst, ◌∙◌, arith, append_assoc, append-nil, length-append}
 use Rattle.std.specs.Prelude.{if◌then◌else◌}
 use Rattle.std.specs.List.{filter}
 use Rattle.std.proofs.lemmas.Bool.Decides.{nat_tests}
@@ -17,7 +17,7 @@ use Rattle.sim_standard.specs.Records.{all_changes, changes_from}
 use Rattle.sim_store_state.specs.declared.log.Entry.{Entry}
 use Rattle.sim_store_state.specs.declared.log.Entry.TheVariants as entry
 use Rattle.sim_store_state.specs.Log.{begun, changed, changes_before, changes_of, count_times, delta_after, first, last_record, record_at, recorded}
-use Rattle.sim_store_state.specs.Log.{records_after, records_in, time_after, time_with, IsLog, IsNext}
+use Rattle.sim_store_state.specs.Log.{last_in, records_after, records_in, time_after, time_with, IsLog, IsNext, IsRecorded, Logged}
 
 -- a record of each net has their values
 pub all_values : (n : ℕ) (values values_before : List Logic) → length values ≡ length values_before
@@ -252,29 +252,35 @@ abbrev pub times_with : List ℕ → Bool → ℕ → List ℕ
 times_with times is_time time = if is_time then times ++ time ∷ [] else times
 
 -- what is known once the entries of a record, and its time if it is a new one, are appended
-pub record Pushed (times : List ℕ) (entries : List Entry) (records changes last : ℕ) (after : List Record) : Type 0 where
+pub record Pushed (times : List ℕ) (entries : List Entry) (records changes last : ℕ) (before : List Record) (one : Record) : Type 0 where
   pub log : IsLog times entries records changes last
-  pub are : records_in times entries ≡ after
+  pub are : records_in times entries ≡ before ++ one ∷ []
+  pub last_is : last_in times entries ≡ (one.time, one.delta)
 
 module _ {times : List ℕ} {entries : List Entry} {records changes last : ℕ} (i : IsLog times entries records changes last) where
   -- the records, given that those before them are not changed by a new time, and when the new one is
   push : (rs : List Record) → records_in times entries ≡ rs → (b : Bool) (time delta : ℕ) (cs : List (ℕ × Logic)) (times' : List ℕ)
       → records_in times' entries ≡ records_in times entries
-      → time-or b (time_with times' (count_times entries)) (time_after times' 0 0 entries) ≡ time → time-or b 0 (suc (delta_after 0 entries)) ≡ delta
+      → time-or b (time_with times' (count_times entries)) (time_after times' 0 0 entries) ≡ time
+      → time-or b 0 (suc (delta_after 0 entries)) ≡ delta
       → length times' ≡ length times + (if b then 1 else 0)
-      → Pushed times' (entries ++ recorded b cs) (records + 1) (changes + length cs) (length entries) (rs ++ begun time delta cs ∷ [])
+      → Pushed times' (entries ++ recorded b cs) (records + 1) (changes + length cs) (length entries) rs (begun time delta cs)
   push rs e b time delta cs times' same et ed el =
       let fs = recorded b cs in
       let r = begun time delta cs in
       let k = count_times entries in
       let ek : k ≡ 0 + count_times entries = omega arith in
+      let at = time_after times' 0 0 entries in
+      let of = delta_after 0 entries in
       let are : records_in times' (entries ++ fs) ≡ rs ++ r ∷ [] =
       records-append times' 0 k 0 0 entries fs (recorded-begins b cs) ek
-      ∙ (ap (λ w. records_in times' entries ++ w) (recorded-records times' k (time_after times' 0 0 entries) (delta_after 0 entries) b cs
-      ∙ (ap (λ t. begun t (time-or b 0 (suc (delta_after 0 entries))) cs ∷ []) et ∙ ap (λ m. begun time m cs ∷ []) ed))
+      ∙ (ap (λ w. records_in times' entries ++ w) (recorded-records times' k at of b cs
+      ∙ (ap (λ t. begun t (time-or b 0 (suc of)) cs ∷ []) et ∙ ap (λ m. begun time m cs ∷ []) ed))
       ∙ ap (λ w. w ++ r ∷ []) (same ∙ e)) in
       let long = length-append entries fs in
       let last_one : last_record (records_in times' (entries ++ fs)) ≡ r = ap last_record are ∙ last-pushed rs r in
+      let last_time = time-append times' 0 k 0 entries fs ek ∙ (recorded-time times' k at b cs ∙ et) in
+      let last_delta = delta-append 0 entries fs ∙ (recorded-delta of b cs ∙ ed) in
       record {
         log = record {
           counted = count-append entries fs ∙ omega (arith, i.counted, recorded-count b cs, el);
@@ -292,33 +298,29 @@ module _ {times : List ℕ} {entries : List Entry} {records changes last : ℕ} 
           few_changes = omega (arith, i.few_changes, long, (recorded-long b cs).0);
           within = omega (arith, long);
           last_are = ap changes_of (drop_at entries fs (length entries) refl) ∙ (recorded-of b cs ∙ sym (ap (λ (q : Record). q.changes) last_one));
-          time_is = λ _. ap (λ (q : Record). q.time) last_one ∙ sym
-              (time-append times' 0 k 0 entries fs ek ∙ (recorded-time times' k (time_after times' 0 0 entries) b cs ∙ et));
-          delta_is = λ _. ap (λ (q : Record). q.delta) last_one ∙ sym (delta-append 0 entries fs ∙ (recorded-delta (delta_after 0 entries) b cs ∙ ed));
         };
         are = are;
+        last_is = λ j. (last_time j, last_delta j);
       }
 
-  pub log-push : (rs : List Record) → records_in times entries ≡ rs → (time delta : ℕ) (cs : List (ℕ × Logic)) → IsNext rs time delta
+  pub log-push : (rs : List Record) → records_in times entries ≡ rs → (time delta : ℕ) (cs : List (ℕ × Logic))
+      → IsNext (last_in times entries) time delta
       → Pushed (times_with times (delta == 0) time) (entries ++ recorded (delta == 0) cs) (records + 1) (changes + length cs) (length entries)
-      (rs ++ begun time delta cs ∷ [])
+      rs (begun time delta cs)
   log-push rs e time delta cs next = go (delta == 0) refl
     where
       fits : 0 + count_times entries ≤ length times
       fits = omega (arith, i.counted)
 
       go : (b : Bool) → (delta == 0) ≡ b
-          → Pushed (times_with times b time) (entries ++ recorded b cs) (records + 1) (changes + length cs) (length entries) (rs ++ begun time delta cs ∷ [])
+          → Pushed (times_with times b time) (entries ++ recorded b cs) (records + 1) (changes + length cs) (length entries) rs (begun time delta cs)
       go true f =
           let none : delta ≡ 0 = grind (arith, nat_tests) in
           push rs e true time delta cs (times ++ time ∷ []) (records-more times (time ∷ []) 0 0 0 entries fits)
           (with-last times time (count_times entries) i.counted) (sym none) (omega (arith, length-append times (time ∷ [])))
       go false f =
           let some : delta ≢ 0 = λ z. grind (arith, nat_tests) in
-          let begun-there : 0 < length (records_in times entries) = omega (arith, next.some some, ap length e) in
-          push rs e false time delta cs times refl
-          (sym (i.time_is begun-there) ∙ (ap (λ w. (last_record w).time) e ∙ sym (next.time_is some)))
-          (omega (arith, i.delta_is begun-there, ap (λ w. (last_record w).delta) e, next.delta_is some)) (omega arith)
+          push rs e false time delta cs times refl (sym (next.time_is some)) (omega (arith, next.delta_is some)) (omega arith)
 
 -- a cycle has no more changes than there are nets
 pub changes-few : (nets : List NetView) → length (changes_from 0 nets) ≤ length nets
@@ -334,13 +336,23 @@ changes-few nets =
 
 -- the same, as the code finds it: where the record starts, and where its changes end
 pub log-appended : {times : List ℕ} {entries : List Entry} {records changes last : ℕ} → IsLog times entries records changes last
-    → (rs : List Record) → records_in times entries ≡ rs → (time delta : ℕ) (cs : List (ℕ × Logic)) → IsNext rs time delta
+    → (rs : List Record) → records_in times entries ≡ rs → (time delta : ℕ) (cs : List (ℕ × Logic))
+    → (was : ℕ × ℕ) → last_in times entries ≡ was → IsNext was time delta
     → (start end : ℕ) (es entries' : List Entry) (times' : List ℕ) → start ≡ length entries → es ≡ entries ++ map changed cs → end ≡ length es
     → times' ≡ times_with times (delta == 0) time → entries' ≡ entries ++ recorded (delta == 0) cs
-    → Pushed times' entries' (records + 1) (changes + (end - start)) start (rs ++ begun time delta cs ∷ [])
-log-appended {entries = entries} {records = records} {changes = changes} i rs e time delta cs next start end es entries' times' at ee el et en =
+    → Pushed times' entries' (records + 1) (changes + (end - start)) start rs (begun time delta cs)
+log-appended {entries = entries} {records = records} {changes = changes} i rs e time delta cs was ew next start end es entries' times' at ee el et en =
     let count : end - start ≡ length cs = omega (arith, at, el, ap length ee, length-append entries (map changed cs), length-map cs changed) in
-    rw (et, en, count, at) (log-push i rs e time delta cs next)
+    rw (et, en, count, at) (log-push i rs e time delta cs (subst (λ w. IsNext w time delta) (sym ew) next))
+
+-- so it is recorded
+pub is_recorded : {times : List ℕ} {entries : List Entry} {records changes last : ℕ} {rs : List Record} {one : Record}
+    → Pushed times entries records changes last rs one → (old new : Logged) → old.records ≡ rs
+    → new.records ≡ records_in times entries → new.last ≡ last_in times entries → IsRecorded old new one
+is_recorded {one = one} p old new er nr nl = record {
+  records = nr ∙ (p.are ∙ ap (λ w. w ++ one ∷ []) (sym er));
+  last = nl ∙ p.last_is;
+}
 
 -- there is room for one more entry after the changes of a record
 pub room-after : (entries es : List Entry) (cs : List (ℕ × Logic)) (few len len' capacity capacity' room : ℕ) → es ≡ entries ++ map changed cs

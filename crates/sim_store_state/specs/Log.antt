@@ -1,15 +1,16 @@
 -- Records, held as a flat list of entries and the times at which they begin.
--- Implementation only: what `simulate` promises does not rest on this file.
-use Rattle.std.specs.Prelude.{ℕ, suc, ◌-◌, ◌<◌, ◌≡◌, ◌≢◌, ◌≤◌, List, [], ◌∷◌, Bool, true, false, length, map, drop, slice_index_or}
+-- `simulate` does not rest on this file; what a store shows under a lock does.
+use Rattle.std.specs.Prelude.{ℕ, suc, ◌-◌, ◌<◌, ◌≡◌, ◌≢◌, ◌≤◌, List, [], ◌∷◌, ◌++◌, Bool, true, false, length, map, drop, slice_index_or}
 use Rattle.sim_logic.specs.declared.logic.Logic.{Logic}
 use Rattle.sim_standard.specs.declared.record.Record.{Record}
 use Rattle.sim_standard.specs.Records.{all_changes}
 use Rattle.sim_store_state.specs.declared.log.Entry.{Entry}
 use Rattle.sim_store_state.specs.declared.log.Entry.TheVariants as entry
 
--- a log: its records, and room for how many more times and entries it has
+-- a log: its records, the time and the delta number of the last one, and room for how many more times and entries it has
 pub record Logged : Type 0 where
   pub records : List Record
+  pub last : ℕ × ℕ
   pub times_room : ℕ
   pub entries_room : ℕ
 
@@ -90,6 +91,10 @@ delta_after delta (entry.Time value net ∷ entries) = delta_after 0 entries
 delta_after delta (entry.QuietDelta ∷ entries) = delta_after (suc delta) entries
 delta_after delta (entry.QuietTime ∷ entries) = delta_after 0 entries
 
+-- the time and the delta number of the last record in these lists
+abbrev pub last_in : List ℕ → List Entry → ℕ × ℕ
+last_in times entries = (time_after times 0 0 entries, delta_after 0 entries)
+
 -- ---- how a record is written
 
 -- one more change
@@ -121,11 +126,20 @@ record_at records n = slice_index_or records n (record { time = 0; delta = 0; ch
 abbrev pub last_record : List Record → Record
 last_record records = record_at records (length records - 1)
 
--- A record at this time and delta number may come after these: with delta number 0 at any time, with another one after that of the delta cycle before.
-pub record IsNext (records : List Record) (time delta : ℕ) : Type 0 where
-  pub some : delta ≢ 0 → 0 < length records
-  pub time_is : delta ≢ 0 → time ≡ (last_record records).time
-  pub delta_is : delta ≢ 0 → delta ≡ suc (last_record records).delta
+-- A record at this time and delta number may come after one at these: with delta number 0 at any time, with another one after that of the delta cycle before.
+pub record IsNext (last : ℕ × ℕ) (time delta : ℕ) : Type 0 where
+  pub time_is : delta ≢ 0 → time ≡ last.0
+  pub delta_is : delta ≢ 0 → delta ≡ suc last.1
+
+-- A log has the same records, whatever room.
+pub record IsSameLog (old new : Logged) : Type 0 where
+  pub records : new.records ≡ old.records
+  pub last : new.last ≡ old.last
+
+-- One more record is at the end of a log.
+pub record IsRecorded (old new : Logged) (one : Record) : Type 0 where
+  pub records : new.records ≡ old.records ++ one ∷ []
+  pub last : new.last ≡ (one.time, one.delta)
 
 -- These lists, and numbers of records and changes, are those of a log whose last record has its entries from this place on.
 pub record IsLog (times : List ℕ) (entries : List Entry) (records changes last : ℕ) : Type 0 where
@@ -137,5 +151,3 @@ pub record IsLog (times : List ℕ) (entries : List Entry) (records changes last
   pub few_changes : changes ≤ length entries
   pub within : last ≤ length entries
   pub last_are : changes_of (drop last entries) ≡ (last_record (records_in times entries)).changes
-  pub time_is : 0 < length (records_in times entries) → (last_record (records_in times entries)).time ≡ time_after times 0 0 entries
-  pub delta_is : 0 < length (records_in times entries) → (last_record (records_in times entries)).delta ≡ delta_after 0 entries

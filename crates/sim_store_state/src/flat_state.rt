@@ -18,7 +18,7 @@ ghost use Rattle.sim_store_nets.specs.Nets.{row_from, sources_of};
 ghost use Rattle.sim_store_state.specs.FlatState.{AreShares, IsConsistent, counts, flat_state_of, held};
 ghost use Rattle.sim_store_state.specs.InTurn.{AreExecuted, IsExecutable, IsOther};
 ghost use Rattle.sim_store_state.specs.Counting.{AreCountable, AreCounted};
-ghost use Rattle.sim_store_state.specs.Log.{HasRoom, IsNext};
+ghost use Rattle.sim_store_state.specs.Log.{HasRoom, IsNext, IsRecorded};
 ghost use Rattle.sim_store_state.specs.Times as times;
 
 use crate::dividing::divided;
@@ -319,11 +319,11 @@ impl FlatState {
     pub fn update(&mut self, time: u64, delta: u64, log: &mut Log, totals: &mut [u64])
         requires time { spec.next_time (states.all_drivers self.old.owned) ≡ Some time }
         requires few { length self.old.nets < 2 ^ 32 }
-        requires next { IsNext log.old.records time delta }
+        requires next { IsNext log.old.last time delta }
         requires room { HasRoom log.old (length self.old.nets) }
         requires countable { AreCountable (length self.old.nets) totals.old }
         ensures state { (design : design_value) (s : State) → self.old ≡ flat_state_of design s → self.new ≡ flat_state_of design (updated design s time) }
-        ensures records { log.new.records ≡ log.old.records ++ record { time = time; delta = delta; changes = changes_from 0 self.new.nets } ∷ [] }
+        ensures recorded { IsRecorded log.old log.new (record { time = time; delta = delta; changes = changes_from 0 self.new.nets }) }
         ensures counted { AreCounted (changes_from 0 self.new.nets) totals.old totals.new }
     {
         // The present values become the values before this cycle.
@@ -382,9 +382,9 @@ impl FlatState {
     /// for it.
     pub fn record_all(&self, log: &mut Log, time: u64, delta: u64)
         requires few { length self.now.nets < 2 ^ 32 }
-        requires next { IsNext log.old.records time delta }
+        requires next { IsNext log.old.last time delta }
         requires room { HasRoom log.old (length self.now.nets) }
-        ensures { log.new.records ≡ log.old.records ++ record { time = time; delta = delta; changes = values_of self.now.nets } ∷ [] }
+        ensures { IsRecorded log.old log.new (record { time = time; delta = delta; changes = values_of self.now.nets }) }
     {
         log.append_all(time, delta, self.values.seen().values);
     }

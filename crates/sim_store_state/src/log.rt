@@ -8,7 +8,7 @@ ghost use Rattle.sim_store_nets.specs.Nets.{value_at, views_of};
 ghost use Rattle.sim_standard.specs.Records.{all_changes, changes_from};
 ghost use Rattle.sim_store_state.specs.Counting.{AreCountable, AreCounted, change_of};
 ghost use Rattle.sim_store_state.specs.Log.{changed, changes_before, changes_of, count_times, last_record, recorded, records_in};
-ghost use Rattle.sim_store_state.specs.Log.{HasRoom, IsNext};
+ghost use Rattle.sim_store_state.specs.Log.{HasRoom, IsNext, IsRecorded, IsSameLog};
 ghost use Rattle.sim_store_state.specs.Log as spec;
 
 use sim_logic::Logic;
@@ -212,12 +212,13 @@ impl Drop for Log {
 
 impl Model for Log {
     ghost use Rattle.std.specs.Prelude.{◌-◌, vec_len, vec_capacity};
-    ghost use Rattle.sim_store_state.specs.Log.{Logged, records_in, IsLog};
+    ghost use Rattle.sim_store_state.specs.Log.{Logged, last_in, records_in, IsLog};
 
     ghost Value = { Logged };
 
     ghost view = { λ s. record {
       records = records_in s.times.items s.entries.items;
+      last = last_in s.times.items s.entries.items;
       times_room = vec_capacity s.times - vec_len s.times;
       entries_room = vec_capacity s.entries - vec_len s.entries;
     } };
@@ -226,9 +227,10 @@ impl Model for Log {
 }
 
 impl Log {
-    /// A log without records. It takes no memory.
+    /// A log without records, which seems to be at time 0. It takes no memory.
     pub fn new(alloc: Global) -> Log
-        ensures { result.records ≡ [] }
+        ensures records { result.records ≡ [] }
+        ensures last { result.last ≡ (0, 0) }
     {
         Log {
             times: Vec::new(alloc),
@@ -273,7 +275,7 @@ impl Log {
     /// Makes room for a record of at most this number of changes. The records stay.
     pub fn reserve(&mut self, changes: usize) -> Result<(), AllocError>
         requires few { changes < 2 ^ 32 }
-        ensures same { self.new.records ≡ self.old.records }
+        ensures same { IsSameLog self.old self.new }
         ensures room { OnOk result (HasRoom self.new changes) }
     {
         self.times.reserve(1)?;
@@ -293,16 +295,15 @@ impl Log {
     )
         requires unresolved { AreUnresolved lists.now values.old }
         requires few { length values.old.present < 2 ^ 32 }
-        requires next { IsNext self.old.records time delta }
+        requires next { IsNext self.old.last time delta }
         requires room { HasRoom self.old (length values.old.present) }
         requires countable { AreCountable (length values.old.present) totals.old }
         ensures values { values.new ≡ resolved_by lists.now values.old }
-        ensures records { self.new.records ≡ self.old.records ++ record {
+        ensures recorded { IsRecorded self.old self.new (record {
           time = time;
           delta = delta;
-          changes = changes_from 0
-              (views_of values.new.present values.new.before);
-        } ∷ [] }
+          changes = changes_from 0 (views_of values.new.present values.new.before);
+        }) }
         ensures counted { AreCounted (changes_from 0 (views_of values.new.present values.new.before)) totals.old totals.new }
     {
         let start = self.entries.len();
@@ -316,9 +317,9 @@ impl Log {
     /// Appends a record of all nets. There is room for it, so it takes no memory.
     pub(crate) fn append_all(&mut self, time: u64, delta: u64, values: &[Logic])
         requires few { length values.now < 2 ^ 32 }
-        requires next { IsNext self.old.records time delta }
+        requires next { IsNext self.old.last time delta }
         requires room { HasRoom self.old (length values.now) }
-        ensures { self.new.records ≡ self.old.records ++ record { time = time; delta = delta; changes = enumerate_from 0 values.now } ∷ [] }
+        ensures { IsRecorded self.old self.new (record { time = time; delta = delta; changes = enumerate_from 0 values.now }) }
     {
         let start = self.entries.len();
         append_values(&mut self.entries, values);

@@ -1,4 +1,4 @@
-use Rattle.std.proofs.Common.{ℕ, ◌≡◌, ◌-◌, List, length, ap, sym, ◌∙◌, arith}
+use Rattle.std.proofs.Common.{List, length, refl, ap, sym, ◌∙◌, subst}
 use Rattle.sim_flat_design.specs.Designs.{Design}
 use Rattle.sim_standard.specs.State.{Owned, all_drivers, driver_values}
 use Rattle.sim_store_state.specs.FlatState.{FlatState}
@@ -6,27 +6,22 @@ use Rattle.sim_containers.specs.RowArray.{joined}
 use Rattle.sim_store.specs.declared.retained.RetainedContents.{RetainedContents}
 use Rattle.sim_store.specs.Handing.{PhaseInput}
 use Rattle.sim_store.specs.Retained.{IsRetained}
-use Rattle.sim_store_simulation.proofs.Going.{cycle-count, held-count}
-use Rattle.sim_store.proofs.Retaining.{first-input, first-range, first-state, named-retained}
+use Rattle.sim_store_simulation.proofs.Going.{held-count}
+use Rattle.sim_store.proofs.Retaining.{first-input, first-range, first-state}
 use Rattle.sim_store.proofs.Returning.{fresh-owned}
 use Rattle.sim_store.proofs.retained.split_contents.Goals as goal
-
-pub overflow_sub-fields : goal.overflow_sub-fields
-overflow_sub-fields g c = omega (arith, c.len.ensures, cycle-count c.requires.of.state)
 
 pub invariant_of-input : goal.invariant_of-input
 invariant_of-input g c =
     let e = c.into_parts-values.ensures in
-    let n : c.len.result - 1 ≡ length c.args.contents.log.records - 1 = ap (λ (k : ℕ). k - 1) c.len.ensures in
-    first-input c.requires.of.state c.requires.fresh g.D.DesignType.design (c.len.result - 1) c.requires.design n c.args.contents.compiled.codes
+    first-input c.requires.of.state c.requires.fresh g.D.DesignType.design c.args.contents.cycles c.requires.design refl c.args.contents.compiled.codes
     c.into_parts-values.result.0 c.requires.of.compiled.codes_are (ap (λ (w : FlatState). w.nets) (sym e.state))
 
 pub returns-clause-range : goal.returns-clause-range
 returns-clause-range g c =
     let e = c.into_parts-values.ensures in
-    let n : c.len.result - 1 ≡ length c.args.contents.log.records - 1 = ap (λ (k : ℕ). k - 1) c.len.ensures in
-    first-range c.requires.of.state c.requires.fresh g.D.DesignType.design (c.len.result - 1) c.requires.design n (joined c.into_parts-values.result.1.items)
-    (ap (λ (w : FlatState). w.owned) (sym e.state))
+    first-range c.requires.of.state c.requires.fresh g.D.DesignType.design c.args.contents.cycles c.requires.design refl
+    (joined c.into_parts-values.result.1.items) (ap (λ (w : FlatState). w.owned) (sym e.state))
 
 pub returns-clause-all : goal.returns-clause-all
 returns-clause-all g c =
@@ -38,9 +33,8 @@ returns-clause-retained g c =
     let e = c.into_parts-values.ensures in
     let m = c.args.contents in
     let i = c.requires.of.state in
-    let n : c.len.result - 1 ≡ length m.log.records - 1 = ap (λ (k : ℕ). k - 1) c.len.ensures in
     let f : PhaseInput = record {
-      cycles = length m.log.records - 1;
+      cycles = m.cycles;
       phase = m.phase;
       time = m.time;
       codes = m.compiled.codes;
@@ -52,7 +46,6 @@ returns-clause-retained g c =
       sensitive = m.compiled.sensitive;
       frame = m.compiled.frame;
       lists = c.into_parts-values.result.2;
-      log = m.log;
       waiting = m.waiting;
       deposited = m.deposited;
       all_executed = m.all_executed;
@@ -76,4 +69,4 @@ returns-clause-retained g c =
         counts = c.requires.of.counts;
       };
     } in
-    named-retained g.D.DesignType.design c.args.design f k (c.len.result - 1) c.requires.design n is
+    subst (λ (d : Design). IsRetained d f k) c.requires.design is

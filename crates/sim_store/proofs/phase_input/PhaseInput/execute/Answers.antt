@@ -56,8 +56,8 @@ returns-clause-range g c =
       time = s.time;
       first = c.args.from;
     } in
-    on_ok_weaker c.execute.result (range-executed i r ep en et c.due-numbers.result.now share c.execute.new.self numbers c.requires.range)
-    c.execute.ensures.executed
+    on_ok_weaker c.execute.result (range-executed i r ep en et c.due-numbers.result.now share c.execute.new.self numbers c.requires.range
+    c.execute.ensures.kept.sized c.execute.ensures.kept.ready) c.execute.ensures.executed
 
 pub returns-clause-count : goal.returns-clause-count
 returns-clause-count g c = c.execute.ensures.kept.sized

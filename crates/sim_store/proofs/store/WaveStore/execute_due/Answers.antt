@@ -1,18 +1,21 @@
 use Rattle.std.proofs.Common.{rules, tests, ◌≡◌, None, sym, subst}
-use Rattle.sim_store_simulation.specs.Simulation.{Simulation, IsComplete}
+use Rattle.sim_store_simulation.specs.Simulation.{Simulation, IsComplete, IsWhole}
 use Rattle.sim_store.specs.WaveStore.{WaveStore, IsStore}
 use Rattle.sim_store.specs.contracts.store.WaveStore.{the_view}
-use Rattle.sim_store.proofs.Stores.{ended-complete, store-executed}
+use Rattle.sim_store.proofs.Stores.{ended-complete, store-executed, whole-marked}
 use Rattle.sim_store.proofs.store.WaveStore.execute_due.Goals as goal
 
 pub invariant_of-result : goal.invariant_of-result
 invariant_of-result c =
     let s = c.self.inside in
     let running : s.ended ≡ None = search (rules, tests) in
-    subst (λ (g : Simulation). IsStore (record { simulation = g; stop = s.stop; limit = s.limit; ended = s.ended })) (sym c.in_ok-simulation.ensures.same)
-    (store-executed (the_view s) c.in_ok-simulation.simulation.deposited c.self.invariant running)
+    let same = sym c.in_ok-simulation.ensures.same in (
+      subst (λ (g : Simulation). IsStore (record { simulation = g; stop = s.stop; limit = s.limit; ended = s.ended })) same
+          (store-executed (the_view s) c.in_ok-simulation.simulation.deposited c.self.invariant.0 running),
+      subst (λ (g : Simulation). IsWhole g s.log) same (whole-marked c.self.invariant.1 s.simulation.phase c.in_ok-simulation.simulation.deposited),
+    )
 
 pub returns-then-is_some-clause-complete : goal.returns-then-is_some-clause-complete
 returns-then-is_some-clause-complete c =
     subst (λ (w : WaveStore). IsComplete w.simulation) c.self.view_is
-    (ended-complete (the_view c.self.inside) c.self.invariant (sym c.if-is_some.ensures))
+    (ended-complete (the_view c.self.inside) c.self.invariant.0 (sym c.if-is_some.ensures))

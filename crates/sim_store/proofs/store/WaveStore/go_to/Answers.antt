@@ -8,7 +8,7 @@ use Rattle.sim_store.proofs.store.WaveStore.go_to.Goals as goal
 
 pub returns-then-cycles-self-clause-ok : goal.returns-then-cycles-self-clause-ok
 returns-then-cycles-self-clause-ok c =
-    let is : IsStore c.args.self.now = subst IsStore c.self.view_is c.self.invariant in
+    let is : IsStore c.args.self.now = subst IsStore c.self.view_is c.self.invariant.0 in
     let at = sym c.cycles.ensures ∙ c.if-cycles-self.true in
     let reached = ap (λ (w : WaveStore). w.simulation.cycles) (sym c.self.view_is) ∙ (at ∙ ap (λ (w : WaveStore). w.limit) c.self.view_is) in
     rw c.end.ensures.step (
@@ -24,6 +24,8 @@ invariant_of-self-2 c =
     let w = the_view s in
     let running = subst (λ (v : WaveStore). v.ended ≡ None) (sym c.self.view_is) c.requires.open in
     let next = subst (λ (v : WaveStore). next_after v.simulation ≡ Some (CycleAt c.args.time)) (sym c.self.view_is) c.requires.next in
-    let before = subst (λ (v : WaveStore). c.args.time ≤ v.stop) (sym c.self.view_is) c.requires.until in
-    store-goes-on w c.go_on.new.self c.args.time c.self.invariant running c.in_ok-go_on.ensures.ok next before
-    (λ e. c.if-cycles-self.false (c.cycles.ensures ∙ e)) c.in_ok-go_on.ensures.at
+    let before = subst (λ (v : WaveStore). c.args.time ≤ v.stop) (sym c.self.view_is) c.requires.until in (
+      store-goes-on w c.go_on.new.self c.args.time c.self.invariant.0 running c.in_ok-go_on.ensures.ok.0 next before
+          (λ e. c.if-cycles-self.false (c.cycles.ensures ∙ e)) c.in_ok-go_on.ensures.ok.1,
+      c.go_on.ensures.log,
+    )

@@ -1,9 +1,7 @@
-use Rattle.std.proofs.Common.{arith}
-use Rattle.sim_store_simulation.proofs.Going.{cycle-count}
-use Rattle.sim_store_simulation.proofs.Boxes.{held}
+use Rattle.std.proofs.Common.{ap}
+use Rattle.sim_store_simulation.specs.Simulation.{Simulation}
+use Rattle.sim_store_simulation.proofs.Boxes.{shown}
 use Rattle.sim_store_simulation.proofs.simulation.Simulation.cycles.Goals as goal
 
-pub overflow_sub-result : goal.overflow_sub-result
-overflow_sub-result c =
-    let kept = held c.self.inside.design c.deref.ensures c.self.invariant in
-    omega (arith, c.len.ensures, cycle-count kept.state)
+pub returns : goal.returns
+returns c = ap (λ (g : Simulation). g.cycles) (shown c.self.inside.design c.deref.ensures c.self.view_is)

@@ -79,7 +79,7 @@ invariant_of-self c =
       marked = kept.marked;
       state = subst (λ (w : List Bool). IsStateOf (record { design = h.design; cycles = h.cycles; phase = h.phase; deposited = w })
           m.time m.delta held'
-          m.log.records m.due m.waiting.waiting) (sym marks)
+          m.due m.waiting.waiting) (sym marks)
           (deposited-keeps i job.number (result_of job) held' (own-result i job own miss.due) (own-ready i job own c.into_parts-job.ensures.ready) now);
       marks_sized = ap length set_now ∙ (length-set m.deposited job.number true ∙ kept.marks_sized);
       counts = kept.counts;

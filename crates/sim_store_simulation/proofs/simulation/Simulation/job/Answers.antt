@@ -6,7 +6,7 @@ use Rattle.sim_standard.proofs.Names.{no_process}
 use Rattle.sim_exec.specs.Jobs.{Job, IsJob}
 use Rattle.sim_standard.specs.State.{Owned, net_at}
 use Rattle.sim_store_simulation.specs.Simulation.{Simulation, IsJobOf, IsOwn, is_due, those_in}
-use Rattle.sim_store_simulation.proofs.Going.{cycle-count, held-count, job-fits, part-is}
+use Rattle.sim_store_simulation.proofs.Going.{held-count, job-fits, part-is}
 use Rattle.sim_store_simulation.specs.Contents.{simulation_of}
 use Rattle.sim_store_simulation.proofs.Boxes.{held, shown}
 use Rattle.sim_store_simulation.proofs.simulation.Simulation.job.Goals as goal
@@ -16,11 +16,6 @@ part-requires c =
     let kept = held c.self.inside.design c.deref-contents.ensures c.self.invariant in
     let view = shown c.self.inside.design c.deref-contents.ensures c.self.view_is in
     omega (arith, c.requires.due.number, ap (λ (h : Simulation). length h.design.processes) view, held-count kept.state)
-
-pub overflow_sub-len : goal.overflow_sub-len
-overflow_sub-len c =
-    let kept = held c.self.inside.design c.deref-contents.ensures c.self.invariant in
-    omega (arith, c.len.ensures, cycle-count kept.state)
 
 pub new-requires : goal.new-requires
 new-requires c =
@@ -59,7 +54,7 @@ returns c =
     ∙ ap (λ (q : Process). map (net_at m.state.nets) q.reads) is) in
     let own : Owned = record { drivers = c.in_ok-part.part.drivers.items; variables = c.in_ok-part.part.variables.items } in
     subst (λ (g : Simulation). IsJobOf g c.args.number c.new.result) view (record {
-      cycle = ap (λ (j : Job). j.cycle) c.new.ensures ∙ omega (arith, c.len.ensures);
+      cycle = ap (λ (j : Job). j.cycle) c.new.ensures;
       number = ap (λ (j : Job). j.number) c.new.ensures;
       own = subst (λ (j : Job). IsOwn h j) (sym c.new.ensures) (record {
         process = c.in_ok-process.ensures ∙ is;

@@ -1,11 +1,11 @@
-use Rattle.std.proofs.Common.{◌≡◌, length, arith, ap, sym, ◌∙◌}
+use Rattle.std.proofs.Common.{◌≡◌, refl, length, arith, ap, sym, ◌∙◌}
 use Rattle.std.proofs.lemmas.List.{length-map}
 use Rattle.sim_standard.specs.Records.{changes_from}
 use Rattle.sim_store_nets.specs.Lists.{NetValues}
 use Rattle.sim_store_nets.specs.Nets.{row_from, views_of}
 use Rattle.sim_store_nets.proofs.Views.{length-views_of}
 use Rattle.sim_store_state.specs.Log.{Logged}
-use Rattle.sim_store_state.proofs.Logged.{changes-few, log-appended, room-after}
+use Rattle.sim_store_state.proofs.Logged.{changes-few, is_recorded, log-appended, room-after}
 use Rattle.sim_store_state.proofs.log.Log.append.Goals as goal
 
 pub append_changes-requires-clause-room : goal.append_changes-requires-clause-room
@@ -36,17 +36,20 @@ invariant_of-self c =
     let appended = c.append_changes.ensures.appended in
     let start = c.len-start.ensures ∙ c.self.inside.entries.ok.0 in
     (log-appended c.self.invariant c.args.self.now.records (ap (λ (l : Logged). l.records) c.self.view_is) c.args.time c.args.delta
-    changes c.requires.next c.len-start.result c.len.result c.append_changes.new.entries.items _ _ start appended
+    changes c.args.self.now.last (ap (λ (l : Logged). l.last) c.self.view_is) c.requires.next
+    c.len-start.result c.len.result c.append_changes.new.entries.items _ _ start appended
     (c.len.ensures ∙ c.append_changes.new.entries.ok.0) c.begin_record.ensures.times
     (c.begin_record.ensures.entries c.self.inside.entries.items changes appended start)).log
 
-pub returns-clause-records : goal.returns-clause-records
-returns-clause-records c =
+pub returns-clause-recorded : goal.returns-clause-recorded
+returns-clause-recorded c =
     let v = c.append_changes.new.values in
     let changes = changes_from 0 (views_of v.present v.before) in
     let appended = c.append_changes.ensures.appended in
     let start = c.len-start.ensures ∙ c.self.inside.entries.ok.0 in
-    (log-appended c.self.invariant c.args.self.now.records (ap (λ (l : Logged). l.records) c.self.view_is) c.args.time c.args.delta
-    changes c.requires.next c.len-start.result c.len.result c.append_changes.new.entries.items _ _ start appended
+    is_recorded (log-appended c.self.invariant c.args.self.now.records (ap (λ (l : Logged). l.records) c.self.view_is) c.args.time c.args.delta
+    changes c.args.self.now.last (ap (λ (l : Logged). l.last) c.self.view_is) c.requires.next
+    c.len-start.result c.len.result c.append_changes.new.entries.items _ _ start appended
     (c.len.ensures ∙ c.append_changes.new.entries.ok.0) c.begin_record.ensures.times
-    (c.begin_record.ensures.entries c.self.inside.entries.items changes appended start)).are
+    (c.begin_record.ensures.entries c.self.inside.entries.items changes appended start))
+    c.args.self.now _ refl refl refl
