@@ -1,5 +1,5 @@
 -- Due processes that are executed one after another, by what they own, without marks.
-use Rattle.std.proofs.Common.{ℕ, zero, suc, ◌+◌, ◌<◌, ◌≤◌, ◌≡◌, ◌≢◌, ◌&&◌, ◌||◌, eqb, not, cond, Bool, true, false, if◌then◌else◌, List, [], ◌∷◌, length}
+use Rattle.std.proofs.Common.{ℕ, zero, suc, ◌<◌, ◌≡◌, ◌&&◌, ◌||◌, eqb, not, cond, Bool, true, false, if◌then◌else◌, List, [], ◌∷◌, length}
 use Rattle.std.proofs.Common.{refl, ap, sym, ◌∙◌, subst, arith}
 use Rattle.std.specs.List.{All, filter}
 use Rattle.std.proofs.lemmas.Bool.Decides.{nat_tests}
@@ -14,10 +14,10 @@ use Rattle.sim_store_state.specs.FlatState.{FlatState}
 use Rattle.sim_store_state.specs.InTurn as turn
 use Rattle.sim_store_state.specs.InTurn.{AreExecuted, after_one}
 use Rattle.sim_store_simulation.specs.declared.simulation.Contents.{Contents}
-use Rattle.sim_store_simulation.specs.Contents.{IsWith, simulation_of, simulation_with, unmarked_of}
+use Rattle.sim_store_simulation.specs.Contents.{IsWith, simulation_with, unmarked_of}
 use Rattle.sim_store_simulation.specs.Simulation.{Simulation, IsComplete, IsMissing, IsStateOf, is_due, listed, those_in, with_marks, with_one}
 use Rattle.sim_store_simulation.proofs.Going.{executed-are-due, executed-keeps, held-count, one-marked, ready-here}
-use Rattle.sim_store_simulation.proofs.Walks.{due-within, missing-beside, others-missing}
+use Rattle.sim_store_simulation.proofs.Walks.{missing-beside, others-missing}
 
 -- ---- numbers that pass a test
 

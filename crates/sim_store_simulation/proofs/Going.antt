@@ -24,7 +24,6 @@ use Rattle.sim_standard.proofs.ValuesKept.{values_kept}
 use Rattle.sim_logic.specs.Time.{largest_time}
 use Rattle.sim_exec_statements.specs.Ready.{IsReady, holds_bit}
 use Rattle.sim_exec.specs.Jobs.{IsJob, Job, job_state, result_of}
-use Rattle.sim_standard.specs.declared.record.Record.{Record}
 use Rattle.sim_standard.specs.Cycle.{is_at_once, is_resumed, is_waiting, updated}
 use Rattle.sim_standard.specs.Cycle.{Following, CycleAt, PostponedDelta, following, has_postponed_delta}
 use Rattle.sim_standard.specs.Orders.{is_among}
@@ -318,24 +317,28 @@ module _ {h : Simulation} {time delta : ℕ} {held : FlatState} {due waiting : L
       time_of_cycle false None t e = absurd (cc e)
       time_of_cycle false (Some u) t e = cc e
 
-  -- the next cycle is at this time
-  pub advanced-time : (t : ℕ) → next_time (all_drivers held.owned) ≡ Some t → (state_of h.design (suc h.cycles)).time ≡ t
-  advanced-time t some =
-      let d = h.design in
-      ap (λ (o : Option State). (or_first d o).time)
-      (one-updated ∙ ap (option_map (updated d (cycle_end_together d h.cycles (updated_last h)))) some)
+  -- it is the state of the next cycle
+  next-state : (t : ℕ) → next_time (all_drivers held.owned) ≡ Some t
+      → state_of h.design (suc h.cycles) ≡ updated h.design (cycle_end_together h.design h.cycles (updated_last h)) t
+  next-state t some =
+      ap (or_first h.design) (one-updated ∙ ap (option_map (updated h.design (cycle_end_together h.design h.cycles (updated_last h)))) some)
 
-  -- its delta number
+  next-there : (t : ℕ) → next_time (all_drivers held.owned) ≡ Some t
+      → updated_in h.design (suc h.cycles) ≡ Some (state_of h.design (suc h.cycles))
+  next-there t some =
+      one-updated ∙ (ap (option_map (updated h.design (cycle_end_together h.design h.cycles (updated_last h)))) some ∙ ap Some (sym (next-state t some)))
+
+  -- which is at this time, and has this delta number
+  pub advanced-time : (t : ℕ) → next_time (all_drivers held.owned) ≡ Some t → (state_of h.design (suc h.cycles)).time ≡ t
+  advanced-time t some = ap (λ (w : State). w.time) (next-state t some)
+
   pub advanced-delta : (t δ : ℕ) → next_time (all_drivers held.owned) ≡ Some t → δ ≡ next_delta t time delta
       → (state_of h.design (suc h.cycles)).delta ≡ δ
   advanced-delta t δ some ed =
-      let d = h.design in
-      let x = cycle_end_together d h.cycles (updated_last h) in
-      let q : state_of d (suc h.cycles) ≡ updated d x t =
-      ap (or_first d) (one-updated ∙ ap (option_map (updated d x)) some) in
-      let xt : (updated_last h).time ≡ x.time = sym (executed_time d h.cycles (updated_last h)) in
-      let xd : (updated_last h).delta ≡ x.delta = sym (executed_delta d h.cycles (updated_last h)) in
-      ap (λ (w : State). w.delta) q
+      let x = cycle_end_together h.design h.cycles (updated_last h) in
+      let xt : (updated_last h).time ≡ x.time = sym (executed_time h.design h.cycles (updated_last h)) in
+      let xd : (updated_last h).delta ≡ x.delta = sym (executed_delta h.design h.cycles (updated_last h)) in
+      ap (λ (w : State). w.delta) (next-state t some)
       ∙ sym (ed ∙ (ap (λ (m : ℕ). next_delta t m delta) (i.time_is ∙ xt) ∙ ap (λ (m : ℕ). next_delta t x.time m) (i.delta_is ∙ xd)))
 
   pub held-is : held ≡ flat_state_of h.design (cycle_end_together h.design h.cycles (updated_last h))
@@ -359,25 +362,23 @@ module _ {h : Simulation} {time delta : ℕ} {held : FlatState} {due waiting : L
       ∙ length-nets_updated (all_drivers (map (own_taken t) x.owned)) h.design.nets x.nets
       (ap length (executed_nets h.design h.cycles (updated_last h) ∙ sym i.nets_are) ∙ net-count i)
 
+  next-held : (t : ℕ) → next_time (all_drivers held.owned) ≡ Some t → (held' : FlatState)
+      → ((design : Design) (s : State) → held ≡ flat_state_of design s → held' ≡ flat_state_of design (updated design s t))
+      → held' ≡ flat_state_of h.design (state_of h.design (suc h.cycles))
+  next-held t some held' el =
+      el h.design (cycle_end_together h.design h.cycles (updated_last h)) held-is ∙ ap (flat_state_of h.design) (sym (next-state t some))
+
   -- the record of the next cycle
   pub advanced-recorded : (t : ℕ) → next_time (all_drivers held.owned) ≡ Some t → (δ : ℕ) (held' : FlatState) → δ ≡ next_delta t time delta
       → ((design : Design) (s : State) → held ≡ flat_state_of design s → held' ≡ flat_state_of design (updated design s t))
       → records_to h.design (suc h.cycles)
       ≡ records_to h.design h.cycles ++ record { time = t; delta = δ; changes = changes_from 0 held'.nets } ∷ []
   advanced-recorded t some δ held' ed el =
-      let d = h.design in
-      let x = cycle_end_together d h.cycles (updated_last h) in
-      let u = updated d x t in
-      let p : updated_in d (suc h.cycles) ≡ Some u = one-updated ∙ ap (option_map (updated d x)) some in
-      let l : held' ≡ flat_state_of d u = el d x held-is in
-      let xt : (updated_last h).time ≡ x.time = sym (executed_time d h.cycles (updated_last h)) in
-      let xd : (updated_last h).delta ≡ x.delta = sym (executed_delta d h.cycles (updated_last h)) in
-      let dl : δ ≡ u.delta = ed ∙ (ap (λ (m : ℕ). next_delta t m delta) (i.time_is ∙ xt) ∙ ap (λ (m : ℕ). next_delta t x.time m) (i.delta_is ∙ xd)) in
-      let one : Record = record { time = t; delta = δ; changes = changes_from 0 held'.nets } in
-      let r : one ≡ record { time = u.time; delta = u.delta; changes = changes_from 0 u.nets } =
-      ap (λ (m : ℕ). record { time = t; delta = m; changes = changes_from 0 held'.nets }) dl
-      ∙ ap (λ (w : FlatState). record { time = t; delta = u.delta; changes = changes_from 0 w.nets }) l in
-      one-recorded d i.processes h.cycles u p ∙ ap (λ w. records_to d h.cycles ++ w ∷ []) (sym r)
+      let at = advanced-time t some in
+      let of = advanced-delta t δ some ed in
+      let nets = ap (λ (w : FlatState). changes_from 0 w.nets) (sym (next-held t some held' el)) in
+      one-recorded h.design i.processes h.cycles (state_of h.design (suc h.cycles)) (next-there t some)
+      ∙ λ j. records_to h.design h.cycles ++ record { time = at j; delta = of j; changes = nets j } ∷ []
 
   pub advanced-keeps : (t : ℕ) → next_time (all_drivers held.owned) ≡ Some t → t ≤ largest_time
       → (δ k : ℕ) (held' : FlatState) (postponed due' waiting' deposited' : List Bool)
@@ -394,25 +395,21 @@ module _ {h : Simulation} {time delta : ℕ} {held : FlatState} {due waiting : L
   advanced-keeps t some early δ k held' postponed due' waiting' deposited' ed el es ew ef eu ev ep ek =
       let d = h.design in
       let x = cycle_end_together d h.cycles (updated_last h) in
-      let u = updated d x t in
-      let p : updated_in d (suc h.cycles) ≡ Some u = one-updated ∙ ap (option_map (updated d x)) some in
-      let q : state_of d (suc h.cycles) ≡ u = ap (or_first d) p in
-      let l : held' ≡ flat_state_of d u = el d x held-is in
-      let xt : (updated_last h).time ≡ x.time = sym (executed_time d h.cycles (updated_last h)) in
-      let xd : (updated_last h).delta ≡ x.delta = sym (executed_delta d h.cycles (updated_last h)) in
-      let dl : δ ≡ u.delta = ed ∙ (ap (λ (m : ℕ). next_delta t m delta) (i.time_is ∙ xt) ∙ ap (λ (m : ℕ). next_delta t x.time m) (i.delta_is ∙ xd)) in
-      let n : held'.nets ≡ (state_of d (suc h.cycles)).nets = ap (λ (w : FlatState). w.nets) l ∙ ap (λ (w : State). w.nets) (sym q) in
-      let o : held'.owned ≡ map (own_taken t) held.owned = ap (λ (w : FlatState). w.owned) l ∙ ap (map (own_taken t)) (sym present-complete) in
+      let q = next-state t some in
+      let l = next-held t some held' el in
+      let n : held'.nets ≡ (state_of d (suc h.cycles)).nets = ap (λ (w : FlatState). w.nets) l in
+      let o : held'.owned ≡ map (own_taken t) held.owned =
+      ap (λ (w : FlatState). w.owned) (el d x held-is) ∙ ap (map (own_taken t)) (sym present-complete) in
       rw (ek, ep) (record {
-        there = p ∙ ap Some (sym q);
+        there = next-there t some;
         phased = tt;
-        time_is = ap (λ (w : State). w.time) (sym q);
-        delta_is = dl ∙ ap (λ (w : State). w.delta) (sym q);
+        time_is = sym (advanced-time t some);
+        delta_is = sym (advanced-delta t δ some ed);
         early = early;
         sources_are = ap (λ (w : FlatState). w.sources) l;
         nets_are = n;
-        owned_are = ap (λ (w : FlatState). w.owned) l ∙ (ap (λ (w : State). w.owned) (sym q)
-            ∙ sym (merged-none (those_in (cleared h.deposited)) (results (after h)) 0 (state_of d (suc h.cycles)).owned (none-in h.deposited)));
+        owned_are = ap (λ (w : FlatState). w.owned) l
+            ∙ sym (merged-none (those_in (cleared h.deposited)) (results (after h)) 0 (state_of d (suc h.cycles)).owned (none-in h.deposited));
         sized = length-map h.deposited (λ (b : Bool). false) ∙ i.sized;
         due_sized = es ∙ i.due_sized;
         waiting_sized = ew ∙ i.waiting_sized;

@@ -1,11 +1,10 @@
 -- Which processes have been executed in a phase.
-use Rattle.std.proofs.Common.{ℕ, ◌+◌, ◌<◌, ◌≤◌, ◌≡◌, Bool, true, false, List, length, get_or, set, refl, ap, sym, ◌∙◌, subst, arith}
+use Rattle.std.proofs.Common.{ℕ, ◌≡◌, Bool, true, false, List, set, refl, ap, sym, ◌∙◌, subst}
 use Rattle.sim_flat_design.specs.Designs.{Design}
-use Rattle.sim_standard.specs.declared.record.Record.{Record}
 use Rattle.sim_store_state.specs.FlatState.{FlatState}
 use Rattle.sim_store_simulation.specs.declared.simulation.Contents.{Contents}
-use Rattle.sim_store_simulation.specs.Contents.{IsOf, IsWith, executed_of, simulation_of, simulation_with}
-use Rattle.sim_store_simulation.specs.Simulation.{Simulation, IsComplete, IsMissing, IsStateOf, listed, those_in, with_marks, with_one}
+use Rattle.sim_store_simulation.specs.Contents.{IsOf, IsWith, executed_of, simulation_of}
+use Rattle.sim_store_simulation.specs.Simulation.{IsComplete, IsMissing, IsStateOf, those_in}
 
 -- ---- by the flag
 
@@ -17,15 +16,9 @@ executed-due flag due marks e = ap (λ (b : Bool). executed_of b due marks) e
 pub executed-marked : (flag : Bool) (due marks : List Bool) → flag ≡ false → executed_of flag due marks ≡ marks
 executed-marked flag due marks e = ap (λ (b : Bool). executed_of b due marks) e
 
-module _ (design : Design) (m : Contents) (flag : m.all_executed ≡ false) where
-  pub simulation-marked : simulation_of design m ≡ simulation_with design m m.deposited
-  simulation-marked = ap (simulation_with design m) (executed-marked m.all_executed m.due m.deposited flag)
-
-  pub marked-of : IsOf design m → IsWith design m m.deposited
-  marked-of of = subst (λ (executed : List Bool). IsWith design m executed) (executed-marked m.all_executed m.due m.deposited flag) of
-
-  pub of-marked : IsWith design m m.deposited → IsOf design m
-  of-marked of = subst (λ (executed : List Bool). IsWith design m executed) (sym (executed-marked m.all_executed m.due m.deposited flag)) of
+-- so these are what has been executed
+pub marked-of : (design : Design) (m : Contents) → m.all_executed ≡ false → IsOf design m → IsWith design m m.deposited
+marked-of design m flag of = subst (λ (executed : List Bool). IsWith design m executed) (executed-marked m.all_executed m.due m.deposited flag) of
 
 -- where the flag is set, none is missing
 pub all-complete : (design : Design) (m : Contents) {time delta : ℕ} {held : FlatState} {waiting : List Bool}

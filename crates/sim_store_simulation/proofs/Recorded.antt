@@ -7,12 +7,12 @@ use Rattle.sim_standard.specs.declared.record.Record.{Record}
 use Rattle.sim_standard.specs.Drivers.{next_time}
 use Rattle.sim_standard.specs.State.{State, all_drivers}
 use Rattle.sim_standard.specs.Cycle.{updated}
-use Rattle.sim_standard.specs.Records.{changes_from, records_to}
+use Rattle.sim_standard.specs.Records.{changes_from}
 use Rattle.sim_store_state.specs.FlatState.{FlatState, flat_state_of}
 use Rattle.sim_store_state.specs.Log.{IsNext, IsRecorded, IsSameLog, Logged}
 use Rattle.sim_store_simulation.specs.Simulation.{IsExecuted, IsStateOf, IsWhole, Simulation, place_of}
 use Rattle.sim_store_simulation.specs.declared.phase.Phase.TheVariants as phase
-use Rattle.sim_store_simulation.proofs.Going.{advanced-delta, advanced-recorded, advanced-time, state_of}
+use Rattle.sim_store_simulation.proofs.Going.{advanced-delta, advanced-recorded, advanced-time}
 
 -- after a record of the last cycle, that of the next one may come
 pub next-placed : {h : Simulation} {time delta : ℕ} {held : FlatState} {due waiting : List Bool} (i : IsStateOf h time delta held due waiting)
@@ -47,7 +47,3 @@ continued i done t some δ k held' deposited ed el ek old reserved new whole sam
           r.records ∙ (ap (λ (w : List Record). w ++ one ∷ []) (same.records ∙ whole.records) ∙ sym (advanced-recorded i done t some δ held' ed el));
       last = r.last ∙ λ j. (sym (advanced-time i done t some) j, sym (advanced-delta i done t δ some ed) j);
     })
-
--- without one, it still has all
-pub whole-kept : {h g : Simulation} {log log' : Logged} → IsWhole h log → g ≡ h → IsSameLog log log' → IsWhole g log'
-whole-kept w e s = rw e (record { records = s.records ∙ w.records; last = s.last ∙ w.last })

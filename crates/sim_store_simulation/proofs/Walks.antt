@@ -1,12 +1,9 @@
 -- The due processes that are missing.
-use Rattle.std.proofs.Common.{ℕ, ◌+◌, ◌<◌, ◌≡◌, ◌≢◌, ◌&&◌, eqb, not, Bool, true, false, List, length, refl, sym, ◌∙◌, subst, arith}
+use Rattle.std.proofs.Common.{ℕ, ◌<◌, ◌≡◌, ◌≢◌, ◌&&◌, not, Bool, true, false, List, length, refl, sym, ◌∙◌, arith}
 use Rattle.std.proofs.Common.{Option, None, Some, MatchOption}
-use Rattle.std.proofs.Math.Decide.{dec_lt}
-use Rattle.std.proofs.lemmas.Bool.Decides.{nat_tests}
 use Rattle.std.proofs.lemmas.List.{get_or-set_other, get_or-set_same}
 use Rattle.sim_containers.specs.Numbers.{is_beside}
 use Rattle.sim_containers.specs.Words.{IsNext, NoneFrom}
-use Rattle.sim_standard.specs.declared.record.Record.{Record}
 use Rattle.sim_store_state.specs.FlatState.{FlatState}
 use Rattle.sim_store_nets.proofs.Walks.{member_within, not_both}
 use Rattle.sim_store_simulation.specs.Simulation.{Simulation, IsStateOf, IsComplete, IsLeastMissing, IsMissing, those_in, with_one}

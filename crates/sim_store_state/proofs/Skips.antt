@@ -1,16 +1,15 @@
 -- What is recorded once one more net has the value of its sources.
-use Rattle.std.proofs.Common.{ℕ, zero, suc, ◌+◌, ◌<◌, ◌≤◌, ◌≡◌, ◌≢◌, ◌++◌, ◌||◌, ◌&&◌, Bool, true, false, not, List, [], ◌∷◌, length, get_or, set, drop}
+use Rattle.std.proofs.Common.{ℕ, zero, suc, ◌+◌, ◌<◌, ◌≤◌, ◌≡◌, ◌++◌, ◌||◌, ◌&&◌, Bool, true, false, not, List, [], ◌∷◌, length, get_or, set, drop}
 use Rattle.std.proofs.Common.{refl, ap, sym, ◌∙◌, arith, add-one}
 use Rattle.sim_logic.specs.declared.logic.Logic.{Logic}
 use Rattle.sim_logic.specs.Logic.{is_same}
 use Rattle.sim_standard.specs.declared.net_view.NetView.{NetView}
-use Rattle.sim_logic.proofs.SameValues.{same_from_is_same, is_same_from_same}
+use Rattle.sim_logic.proofs.SameValues.{is_same_from_same}
 use Rattle.sim_store_nets.specs.Nets.{changed_to, value_at, views_of}
 use Rattle.sim_standard.specs.Records.{changes_from}
 use Rattle.sim_standard.specs.Orders.{is_among}
 use Rattle.sim_store_state.specs.Sensitive.{is_sensitive, is_resumed_by}
 use Rattle.sim_store_nets.proofs.SourceValues.{same-everywhere}
-use Rattle.sim_store_nets.proofs.Walks.{not_both}
 
 abbrev changes_if : {X : Type 0} → Bool → X → List X → List X
 changes_if true change rest = change ∷ rest

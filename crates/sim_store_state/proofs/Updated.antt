@@ -1,10 +1,10 @@
 -- A state after an update.
-use Rattle.std.proofs.Common.{ℕ, ◌<◌, ◌≡◌, Some, false, List, [], ◌∷◌, length, map, refl, ap, sym, ◌∙◌, subst, arith}
+use Rattle.std.proofs.Common.{ℕ, ◌<◌, ◌≡◌, false, List, [], ◌∷◌, length, map, refl, ap, sym, ◌∙◌, subst, arith}
 use Rattle.std.proofs.lemmas.List.{get_or-map, get_or_past, length-map}
 use Rattle.std.proofs.Math.Decide.{dec_lt}
 use Rattle.sim_logic.specs.declared.logic.Logic.{Logic}
 use Rattle.sim_logic.specs.declared.logic.Logic.TheVariants.{U}
-use Rattle.sim_standard.specs.Drivers.{DriverState, next_time}
+use Rattle.sim_standard.specs.Drivers.{DriverState}
 use Rattle.sim_standard.specs.State.{Owned, all_drivers}
 use Rattle.sim_standard.proofs.Names.{own_taken}
 use Rattle.sim_containers.specs.Numbers.{is_in}
@@ -12,8 +12,6 @@ use Rattle.sim_containers.specs.RowArray.{joined}
 use Rattle.sim_store_nets.specs.Lists.{AreUnresolved, Lists, NetValues, net_from}
 use Rattle.sim_store_nets.specs.Nets.{row_from, value_at}
 use Rattle.sim_store_share.specs.Shares.{all_taken}
-use Rattle.sim_store_share.specs.Taking.{IsNoneBefore}
-use Rattle.sim_store_share.proofs.Due.{earliest-next, first_times, least-of-times, time-of-first}
 use Rattle.sim_store_state.specs.FlatState.{AreShares, IsConsistent, counts}
 use Rattle.sim_store_state.specs.Updating.{IsUpdate}
 

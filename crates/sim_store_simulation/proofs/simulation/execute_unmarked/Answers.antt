@@ -1,4 +1,4 @@
-use Rattle.std.proofs.Common.{ℕ, List, ap, sym, ◌∙◌, subst}
+use Rattle.std.proofs.Common.{ℕ, List, sym, ◌∙◌, subst}
 use Rattle.std.specs.List.{All}
 use Rattle.sim_flat_design.specs.Processes.{Process}
 use Rattle.sim_exec_code.specs.Codes.{AreCodesOf}
