@@ -25,25 +25,25 @@ Body = collections.namedtuple("Body", "name crate file function clause round edi
 STORE, SIMULATION = "sim_store", "sim_store_simulation"
 BODIES = [
     Body("the result of a cycle before is taken", STORE, "store.rt", "store::WaveStore::accept", "", 1, [
-        ("        if job.cycle() != self.simulation.cycles() {", "        if job.cycle() > self.simulation.cycles() {")]),
+        ("        if job.cycle() != self.run.simulation().cycles() {", "        if job.cycle() > self.run.simulation().cycles() {")]),
     Body("a second result of a process is taken", STORE, "store.rt", "store::check", "", 2, [
         ("    if simulation.is_deposited(number) {", "    if simulation.is_deposited(number) && !simulation.is_due(number) {")]),
     Body("a result is dropped", STORE, "store.rt", "store::WaveStore::deposit", "ok", 1, [
-        ("                self.simulation.deposit(done);", "                let _dropped = done;")]),
-    Body("a cycle without an event is passed over", STORE, "store.rt", "store::WaveStore::go_to", "ok", 1, [
+        ("                self.run.deposit(done);", "                let _dropped = done;")]),
+    Body("a cycle without an event is passed over", STORE, "run.rt", "run::Run::go_to", "ok", 1, [
         ("        self.simulation.go_on(time, &mut self.log)?;",
          "        let changes = self.log.count();\n"
          "        self.simulation.go_on(time, &mut self.log)?;\n"
          "        if self.log.count() == changes {\n"
          "            self.simulation.go_on(time, &mut self.log)?;\n"
          "        }")]),
-    Body("a run has one cycle more than its limit", STORE, "store.rt", "store::WaveStore::go_to", "ok", 2, [
+    Body("a run has one cycle more than its limit", STORE, "run.rt", "run::Run::go_to", "ok", 2, [
         ("        if self.simulation.cycles() == self.limit as usize {", "        if self.simulation.cycles() > self.limit as usize {")]),
-    Body("a run that finishes in its last cycle is over the limit", STORE, "store.rt", "store::WaveStore::go_on", "ok", 1, [
+    Body("a run that finishes in its last cycle is over the limit", STORE, "run.rt", "run::Run::go_on", "ok", 1, [
         ("            _ => Ok(self.end(Step::Finished)),",
          "            _ if self.simulation.cycles() == self.limit as usize => Ok(self.end(Step::LimitReached)),\n"
          "            _ => Ok(self.end(Step::Finished)),")]),
-    Body("the run begins again", STORE, "store.rt", "store::WaveStore::advance", "ok", 1, [
+    Body("the run begins again", STORE, "run.rt", "run::Run::advance", "ok", 1, [
         ("        self.go_on()\n    }",
          "        let design = self.simulation.design().try_copy()?;\n"
          "        let Ok((begun, log)) = Simulation::begin(_alloc, design) else {\n"
@@ -53,21 +53,21 @@ BODIES = [
          "        self.log = log;\n"
          "        Ok(Step::Next)\n    }")]),
     Body("the last record is given twice", STORE, "store.rt", "store::WaveStore::records_since", "ok", 1, [
-        ("        let found = records_from(alloc, &self.log, number)?;",
-         "        let mut found = records_from(alloc, &self.log, number)?;\n"
-         "        let mut last = records_from(alloc, &self.log, self.simulation.cycles())?;\n"
+        ("        let found = records_from(alloc, log, number)?;",
+         "        let mut found = records_from(alloc, log, number)?;\n"
+         "        let mut last = records_from(alloc, log, self.run.simulation().cycles())?;\n"
          "        if let Some(record) = last.pop() {\n"
          "            let _twice = found.push(record);\n"
          "        }")]),
     Body("a result updates the nets", SIMULATION, "simulation.rt", "simulation::Simulation::deposit", "invariant", 1, [
         ("        put_results(&mut contents.state, number, results);",
          "        put_results(&mut contents.state, number, results);\n"
-         "        let mut log = Log::new(*contents.totals.allocator());\n"
+         "        let mut log = Log::new(*contents.totals.allocator(), Past::none());\n"
          "        contents.state.update(contents.time, contents.delta, &mut log, contents.totals.as_mut_slice());")]),
     Body("a process that is executed in place updates the nets", SIMULATION, "simulation.rt", "simulation::execute_unmarked", "of", 1, [
         ("        numbers.as_slice(),\n        contents.time,\n        &compiled.codes,\n        &mut compiled.frame,\n    )?;",
          "        numbers.as_slice(),\n        contents.time,\n        &compiled.codes,\n        &mut compiled.frame,\n    )?;\n"
-         "    let mut log = Log::new(alloc);\n"
+         "    let mut log = Log::new(alloc, Past::none());\n"
          "    contents.state.update(contents.time, contents.delta, &mut log, contents.totals.as_mut_slice());")]),
     Body("a waiting process is forgotten over a delta cycle", SIMULATION, "simulation.rt", "simulation::leave", "left", 1, [
         ("        Phase::NonPostponed => {}", "        Phase::NonPostponed => waiting.clear(),")]),
@@ -84,6 +84,10 @@ BODIES = [
          "        };\n"
          "        self.design = empty;\n"
          "        Ok(())")]),
+    Body("records that were given away stay", STORE, "run.rt", "run::Run::give", "given", 1, [
+        ("        self.log.give(alloc, last)", "        let given = self.log.give(alloc, last);\n        std::mem::replace(&mut self.log, given)")]),
+    Body("records to come begin at time 0", "sim_store_state", "log.rt", "log::Log::give", "past", 1, [
+        ("            time: last.0,", "            time: 0,")]),
     Body("a driver is listed twice", "sim_containers", "times.rt", "times::TimeQueue::take_due", "drivers", 1, [
         ("        taken.list(&mut drivers);",
          "        taken.list(&mut drivers);\n"

@@ -1,4 +1,5 @@
 pub mod Stores
+pub mod Logs
 pub mod Places
 pub mod Handed
 pub mod Returning

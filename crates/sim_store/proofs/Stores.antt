@@ -10,15 +10,23 @@ use Rattle.sim_store.specs.declared.store.Step.{Step}
 use Rattle.sim_store.specs.declared.store.Step.TheVariants as step
 use Rattle.std.specs.Prelude.{IsSomeAnd, is_some}
 use Rattle.sim_store_state.specs.Log.{Logged}
-use Rattle.sim_store_simulation.specs.Simulation.{Simulation, IsComplete, IsExecuted, IsWhole, after, next_after, or_first, reached, with_marks}
+use Rattle.sim_store_simulation.specs.Simulation.{Simulation, IsComplete, IsExecuted, IsLogged, after, next_after, or_first, reached, with_marks}
 use Rattle.sim_store_simulation.specs.declared.phase.Phase.{Phase}
 use Rattle.sim_store_simulation.specs.declared.phase.Phase.TheVariants as phase
 use Rattle.sim_store.specs.WaveStore.{WaveStore, IsStore, HasEnd}
 
--- a log of all records, with other processes executed or in another phase
-pub whole-marked : {h : Simulation} {log : Logged} → IsWhole h log → (f : Phase) (marks : List Bool)
-    → IsWhole (record { design = h.design; cycles = h.cycles; phase = f; deposited = marks }) log
-whole-marked w f marks = record { records = w.records; last = w.last }
+-- a log of a simulation, with other processes executed or in another phase
+pub logged-marked : {h : Simulation} {log : Logged} → IsLogged h log → (f : Phase) (marks : List Bool)
+    → IsLogged (record { design = h.design; cycles = h.cycles; phase = f; deposited = marks }) log
+logged-marked l f marks = record {
+  given = l.given;
+  all = l.all;
+  records = l.records;
+  changes = l.changes;
+  begun = l.begun;
+  slow = l.slow;
+  last = l.last;
+}
 
 -- a run that begins
 pub store-begins : (g : Simulation) (stop limit : ℕ) → stop ≤ largest_time → g.cycles ≡ 0
@@ -78,14 +86,14 @@ ended-complete w is e = go w.ended e is.end
 -- a run that has had as many cycles as the limit, and needs one more
 pub limit-reached : (w : WaveStore) (time : ℕ) → IsStore w → w.simulation.cycles ≡ w.limit → next_after w.simulation ≡ Some (CycleAt time) → time ≤ w.stop
     → HasEnd w step.LimitReached
-limit-reached w time is at next before m le = go (eqb m w.simulation.cycles) refl
+limit-reached w time is at next before = (at, λ m le. go m le (eqb m w.simulation.cycles) refl)
   where
-    go : (b : Bool) → eqb m w.simulation.cycles ≡ b → IsSomeAnd (next_in w.simulation.design m) (GoesOn w.stop)
-    go true q =
+    go : (m : ℕ) → m ≤ w.limit → (b : Bool) → eqb m w.simulation.cycles ≡ b → IsSomeAnd (next_in w.simulation.design m) (GoesOn w.stop)
+    go m le true q =
         let same : m ≡ w.simulation.cycles = grind (arith, nat_tests) in
         let now : IsSomeAnd (next_after w.simulation) (GoesOn w.stop) = subst (λ (o : Option Following). IsSomeAnd o (GoesOn w.stop)) (sym next) before in
         subst (λ (n : ℕ). IsSomeAnd (next_in w.simulation.design n) (GoesOn w.stop)) (sym same) now
-    go false q =
+    go m le false q =
         let other : m ≢ w.simulation.cycles = grind (arith, nat_tests) in
         is.going m (omega (arith, le, at, other))
 

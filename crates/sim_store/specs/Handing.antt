@@ -14,6 +14,7 @@ use Rattle.sim_store_nets.specs.Lists.{NetValues}
 use Rattle.sim_store_nets.specs.Nets.{views_of}
 use Rattle.sim_store_simulation.specs.declared.phase.Phase.{Phase}
 use Rattle.sim_store_simulation.specs.Simulation.{Simulation, is_due, reached, those_in}
+use Rattle.sim_store.specs.Run.{Run}
 use Rattle.sim_store.specs.WaveStore.{WaveStore, IsOpen}
 
 -- a simulation at the beginning of a phase, after a number of cycles
@@ -92,14 +93,14 @@ pub record AreParts (cycles : ℕ) (phase : Phase) (parts : List ℕ) (ranges : 
   pub counts_are : lengths ranges ≡ parts
   pub in_order : AreInOrder cycles phase 0 ranges
 
--- The rest of a store while a phase is handed out in parts of this many processes each.
+-- The rest of a run while a phase is handed out in parts of this many processes each.
 pub record HandedOutStore : Type 0 where
-  pub store : WaveStore
+  pub run : Run
   pub parts : List ℕ
 
 -- They are all orders of the phase that was handed out, or the answers to all of them, in order.
 abbrev pub AreAll : HandedOutStore → List Range → Type 0
-AreAll handed_out ranges = AreParts handed_out.store.simulation.cycles handed_out.store.simulation.phase handed_out.parts ranges
+AreAll handed_out ranges = AreParts handed_out.run.store.simulation.cycles handed_out.run.store.simulation.phase handed_out.parts ranges
 
 -- The run has not ended, and no process has been executed in this phase.
 pub record IsUntouched (w : WaveStore) : Type 0 where

@@ -1,3 +1,4 @@
 pub mod WaveStore
+pub mod Run
 pub mod Handing
 pub mod Retained

@@ -31,7 +31,7 @@ HasEnd w step.Next = ⊥
 HasEnd w step.Postponed = ⊥
 HasEnd w step.PostponedDelta = HasOutcome (next_in w.simulation.design) w.stop w.limit (PostponedDeltaAfter w.simulation.cycles)
 HasEnd w step.Finished = HasOutcome (next_in w.simulation.design) w.stop w.limit (FinishedAfter w.simulation.cycles)
-HasEnd w step.LimitReached = HasOutcome (next_in w.simulation.design) w.stop w.limit LimitReached
+HasEnd w step.LimitReached = (w.simulation.cycles ≡ w.limit) × HasOutcome (next_in w.simulation.design) w.stop w.limit LimitReached
 
 -- The run is within its bounds and was not over earlier; if it has ended, all processes of the cycle have been executed and this is its outcome.
 pub record IsStore (w : WaveStore) : Type 0 where

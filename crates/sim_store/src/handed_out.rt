@@ -5,6 +5,7 @@ ghost use Rattle.std.specs.Arc.{arc_value};
 ghost use Rattle.sim_store.specs.Handing as spec;
 ghost use Rattle.sim_store.specs.Retained.{IsRetained, retained_of};
 ghost use Rattle.sim_store_simulation.specs.Simulation as simulations;
+ghost use Rattle.sim_store.specs.Run as runs;
 ghost use Rattle.sim_store.specs.WaveStore as store;
 ghost use Rattle.sim_store.specs.declared.error.HandOutError.TheVariants as reason;
 ghost use Rattle.sim_containers.specs.RowArray.{joined};
@@ -16,7 +17,7 @@ use crate::handing::{lengths_of, orders_of, shares_of};
 use crate::order::{Answer, Order};
 use crate::phase_input::PhaseInput;
 use crate::retained::{RetainedContents, join_contents, split_contents};
-use crate::store::WaveStore;
+use crate::run::Run;
 use sim_store_share::Share;
 use sim_store_simulation::Simulation;
 use sim_store_state::Log;
@@ -24,7 +25,7 @@ use std::alloc::{AllocError, Global};
 use std::marker::Model;
 use std::sync::Arc;
 
-/// The rest of a run while a phase is handed out. Contracts see the store that was handed out,
+/// The rest of a run while a phase is handed out. Contracts see the run that was handed out,
 /// and the number of processes of each order.
 pub struct HandedOutStore<D: DesignType> {
     input: Arc<PhaseInput<D>, Global>,
@@ -63,7 +64,7 @@ impl<D: DesignType> Model for HandedOutStore<D> {
     ghost use Rattle.sim_store.specs.Handing.{HandedOutStore};
     ghost use Rattle.sim_store.specs.Retained.{IsRetained, retained_of};
     ghost use Rattle.sim_store.specs.WaveStore.{IsStore};
-    ghost use Rattle.sim_store_simulation.specs.Simulation.{IsWhole};
+    ghost use Rattle.sim_store_simulation.specs.Simulation.{IsLogged};
     ghost use Rattle.sim_store_state.specs.FlatState.{AreShares};
 
     ghost Value = { HandedOutStore };
@@ -71,13 +72,16 @@ impl<D: DesignType> Model for HandedOutStore<D> {
     ghost coded = { Prim.hlevel (codes, logic.the_row.coded, boolean.the_row.coded, statement.the_row.coded) };
 
     ghost view = { λ r. record {
-      store = record { simulation = retained_of D.design (arc_value r.input) r.retained; stop = r.stop; limit = r.limit; ended = None };
+      run = record {
+        store = record { simulation = retained_of D.design (arc_value r.input) r.retained; stop = r.stop; limit = r.limit; ended = None };
+        given = r.log.past.records;
+      };
       parts = r.parts.items;
     } };
 
     ghost invariant = { λ r. IsRetained D.design (arc_value r.input) r.retained
         × IsStore (record { simulation = retained_of D.design (arc_value r.input) r.retained; stop = r.stop; limit = r.limit; ended = None })
-        × AreShares r.parts.items × (sum r.parts.items ≡ length D.design.processes) × IsWhole (retained_of D.design (arc_value r.input) r.retained) r.log };
+        × AreShares r.parts.items × (sum r.parts.items ≡ length D.design.processes) × IsLogged (retained_of D.design (arc_value r.input) r.retained) r.log };
 }
 
 /// The orders for all processes, and the number of processes of each.
@@ -115,8 +119,7 @@ fn shared_input<D: DesignType>(
     Ok((input, orders, parts))
 }
 
-/// Hands out a phase of a simulation with this log of all records, stop time, in femtoseconds, and
-/// limit.
+/// Hands out a phase of a simulation with this log, stop time, in femtoseconds, and limit.
 pub fn hand_out_phase<D: DesignType>(
     alloc: Global,
     simulation: Simulation,
@@ -126,9 +129,12 @@ pub fn hand_out_phase<D: DesignType>(
 ) -> Result<(HandedOutStore<D>, Vec<Order<D>>), AllocError>
     requires design { simulation.design ≡ D.design }
     requires fresh { (p : ℕ) → simulations.those_in simulation.deposited p ≡ false }
-    requires log { simulations.IsWhole simulation log }
+    requires log { simulations.IsLogged simulation log }
     requires bounds { store.IsStore (record { simulation = simulation; stop = stop; limit = limit; ended = None }) }
-    ensures store { IfOk result (λ r. r.0.store ≡ record { simulation = simulation; stop = stop; limit = limit; ended = None }) }
+    ensures run { IfOk result (λ r. r.0.run ≡ record {
+      store = record { simulation = simulation; stop = stop; limit = limit; ended = None };
+      given = log.past.records;
+    }) }
     ensures orders { IfOk result (λ r. spec.AreAll r.0 r.1.items) }
 {
     let (design, contents) = simulation.into_contents();
@@ -187,16 +193,12 @@ fn simulation_of<D: DesignType>(
 }
 
 impl<D: DesignType> HandedOutStore<D> {
-    /// The store again, from the answers to all orders, in their order. All due processes have been
+    /// The run again, from the answers to all orders, in their order. All due processes have been
     /// executed. Refusals: `Stranger` if the answers are not these, `OrderLeft` if an order still
-    /// exists, which contracts cannot see, `Memory`. The store is then lost.
-    pub fn take_back(
-        self,
-        alloc: Global,
-        answers: Vec<Answer<D>>,
-    ) -> Result<WaveStore, HandOutError>
-        ensures same { IfOk result (λ s. s ≡ store.with_deposited self.store s.simulation.deposited) }
-        ensures complete { IfOk result (λ s. simulations.IsComplete s.simulation) }
+    /// exists, which contracts cannot see, `Memory`. The run is then lost.
+    pub fn take_back(self, alloc: Global, answers: Vec<Answer<D>>) -> Result<Run, HandOutError>
+        ensures same { IfOk result (λ r. r ≡ runs.with_executed self.run r.store.simulation.deposited) }
+        ensures complete { IfOk result (λ r. simulations.IsComplete r.store.simulation) }
         ensures err { IfErr result (λ e. e ≡ reason.Stranger → spec.AreAll self answers.items → ⊥) }
     {
         let HandedOutStore {
@@ -209,6 +211,6 @@ impl<D: DesignType> HandedOutStore<D> {
         } = self;
         let (input, shares) = collect_answers(alloc, input, parts, answers)?;
         let simulation = simulation_of(alloc, input, shares, retained)?;
-        Ok(WaveStore::open(simulation, log, stop, limit))
+        Ok(Run::open(simulation, log, stop, limit))
     }
 }

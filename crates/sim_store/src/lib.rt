@@ -8,11 +8,13 @@ mod handing;
 mod order;
 mod phase_input;
 mod retained;
+mod run;
 mod store;
 
 pub use design_type::DesignType;
 pub use error::{HandOutError, StoreError};
 pub use handed_out::HandedOutStore;
 pub use order::{Answer, Order};
-pub use sim_store_state::{Entry, Log, Record};
+pub use run::Run;
+pub use sim_store_state::{Entry, Log, Past, Record};
 pub use store::{Look, Step, WaveStore};

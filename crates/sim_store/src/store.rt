@@ -10,19 +10,18 @@ ghost use Rattle.sim_standard.specs.Agreement.{total_of, value_by};
 ghost use Rattle.sim_standard.specs.Records.{IsNamed, records_to};
 ghost use Rattle.sim_standard.specs.Cycle.{CycleAt};
 ghost use Rattle.sim_store_simulation.specs.Simulation as simulations;
-ghost use Rattle.sim_store.specs.Handing as hands;
+ghost use Rattle.sim_store.specs.Run as runs;
+ghost use Rattle.sim_store_state.specs.Log.{no_past};
 ghost use Rattle.sim_store.specs.WaveStore as spec;
 ghost use Rattle.sim_store.specs.declared.error.StoreError.TheVariants as refusal;
 ghost use Rattle.sim_store.specs.declared.store.Step.TheVariants as step;
 
-use crate::design_type::DesignType;
 use crate::error::StoreError;
-use crate::handed_out::{HandedOutStore, hand_out_phase};
-use crate::order::Order;
+use crate::run::Run;
 use sim_exec::{Done, Job};
 use sim_flat_design::Design;
-use sim_logic::{LATEST, Logic};
-use sim_store_simulation::{Simulation, Upcoming, records_from};
+use sim_logic::Logic;
+use sim_store_simulation::{Simulation, records_from};
 use sim_store_state::{Log, Record};
 use std::alloc::{AllocError, Global};
 use std::marker::Model;
@@ -73,25 +72,14 @@ fn check(simulation: &Simulation, number: usize) -> Result<(), StoreError>
 /// The state of a run, and its history. By its type, what is recorded is what the simulation cycle
 /// of its design gives, one process at a time, and the way the run ended is its outcome.
 pub struct WaveStore {
-    simulation: Simulation,
-    log: Log,
-    stop: u64,
-    limit: u32,
-    ended: Option<Step>,
+    run: Run,
 }
 
 /// Written by hand so that code which drops it needs no proof about its contents.
 impl Drop for WaveStore {
     fn drop(self) {
-        let WaveStore {
-            simulation,
-            log,
-            stop: _,
-            limit: _,
-            ended: _,
-        } = self;
-        drop(simulation);
-        drop(log);
+        let WaveStore { run } = self;
+        drop(run);
     }
 }
 
@@ -100,17 +88,16 @@ impl Model for WaveStore {
     ghost use Rattle.sim_flat_design.specs.contracts.expression.LogicExpression as logic;
     ghost use Rattle.sim_flat_design.specs.contracts.expression.BooleanExpression as boolean;
     ghost use Rattle.sim_flat_design.specs.contracts.statement.Statement as statement;
-    ghost use Rattle.sim_store.specs.WaveStore.{WaveStore, IsStore};
-    ghost use Rattle.sim_store_simulation.specs.Simulation.{IsWhole};
+    ghost use Rattle.std.specs.Prelude.{◌≡◌};
+    ghost use Rattle.sim_store.specs.WaveStore.{WaveStore};
 
     ghost Value = { WaveStore };
 
     ghost coded = { Prim.hlevel (codes, logic.the_row.coded, boolean.the_row.coded, statement.the_row.coded) };
 
-    ghost view = { λ s. record { simulation = s.simulation; stop = s.stop; limit = s.limit; ended = s.ended } };
+    ghost view = { λ s. s.run.store };
 
-    ghost invariant = { λ s. IsStore (record { simulation = s.simulation; stop = s.stop; limit = s.limit; ended = s.ended })
-        × IsWhole s.simulation s.log };
+    ghost invariant = { λ s. s.run.given ≡ 0 };
 }
 
 impl WaveStore {
@@ -127,19 +114,8 @@ impl WaveStore {
         ensures ok { IfOk result (λ s. (stop ≤ largest_time) × (s ≡ spec.begun design stop limit)) }
         ensures err { IfErr result (λ e. spec.IsNewRefusal stop e.0 × (e.1 ≡ design)) }
     {
-        if stop > LATEST {
-            return Err((StoreError::StopTooLate, design));
-        }
-        match Simulation::begin(alloc, design) {
-            Err((_error, design)) => Err((StoreError::Memory, design)),
-            Ok((simulation, log)) => Ok(WaveStore {
-                simulation,
-                log,
-                stop,
-                limit,
-                ended: None,
-            }),
-        }
+        let run = Run::new(alloc, design, stop, limit)?;
+        Ok(WaveStore { run })
     }
 
     /// The job of a due process that has not been executed. Refusals: `Ended`, `NotDue`, `Twice`,
@@ -149,11 +125,11 @@ impl WaveStore {
             × simulations.IsJobOf self.now.simulation process job) }
         ensures err { IfErr result (spec.IsJobRefusal self.now process) }
     {
-        if self.ended.is_some() {
+        if self.run.ended().is_some() {
             return Err(StoreError::Ended);
         }
-        check(&self.simulation, process)?;
-        let job = self.simulation.job(alloc, process)?;
+        check(self.run.simulation(), process)?;
+        let job = self.run.simulation().job(alloc, process)?;
         Ok(job)
     }
 
@@ -168,7 +144,7 @@ impl WaveStore {
         match self.accept(done.job()) {
             Err(error) => Err((error, done)),
             Ok(()) => {
-                self.simulation.deposit(done);
+                self.run.deposit(done);
                 Ok(())
             }
         }
@@ -178,14 +154,14 @@ impl WaveStore {
     fn accept(&self, job: &Job) -> Result<(), StoreError>
         ensures { MatchResult result (λ _. spec.IsTaken self.now job.now) (λ e. spec.IsDepositRefusal self.now job.now e) }
     {
-        if self.ended.is_some() {
+        if self.run.ended().is_some() {
             return Err(StoreError::Ended);
         }
-        if job.cycle() != self.simulation.cycles() {
+        if job.cycle() != self.run.simulation().cycles() {
             return Err(StoreError::Stale);
         }
-        check(&self.simulation, job.number())?;
-        if !self.simulation.is_own(job) {
+        check(self.run.simulation(), job.number())?;
+        if !self.run.simulation().is_own(job) {
             return Err(StoreError::Foreign);
         }
         Ok(())
@@ -194,29 +170,12 @@ impl WaveStore {
     /// Executes all due processes that have not been executed, in place and in rising order of
     /// their numbers, on this thread. If allocation fails, the store is lost: the process that
     /// needed memory may have been executed in part.
-    #[inline(always)]
     pub fn execute_due(self, alloc: Global) -> Result<WaveStore, AllocError>
         ensures same { IfOk result (λ s. s ≡ spec.with_deposited self s.simulation.deposited) }
         ensures complete { IfOk result (λ s. simulations.IsComplete s.simulation) }
     {
-        if self.ended.is_some() {
-            return Ok(self);
-        }
-        let WaveStore {
-            simulation,
-            log,
-            stop,
-            limit,
-            ended,
-        } = self;
-        let simulation = simulation.execute_due(alloc)?;
-        Ok(WaveStore {
-            simulation,
-            log,
-            stop,
-            limit,
-            ended,
-        })
+        let run = self.into_run().execute_due(alloc)?;
+        Ok(WaveStore { run })
     }
 
     /// Carries the run on to its end, on this thread: in each phase, executes all due processes in
@@ -226,93 +185,24 @@ impl WaveStore {
         ensures ended { IfOk result (λ s. s.ended ≢ None) }
         ensures err { IfErr result (λ e. e ≡ refusal.Memory) }
     {
-        let mut run = self;
-        while run.ended().is_none() {
-            run = run.execute_due(alloc)?;
-            let _step = run.go_on()?;
-        }
-        Ok(run)
+        let run = self.into_run().run_to_end(alloc)?;
+        Ok(WaveStore { run })
     }
 
-    /// The store of a run that has not ended, with a log of all records.
-    pub(crate) fn open(simulation: Simulation, log: Log, stop: u64, limit: u32) -> WaveStore
-        requires log { simulations.IsWhole simulation log }
-        requires bounds { spec.IsStore (record { simulation = simulation; stop = stop; limit = limit; ended = None }) }
-        ensures { result ≡ record { simulation = simulation; stop = stop; limit = limit; ended = None } }
+    /// The run, with all its records.
+    pub fn into_run(self) -> Run
+        ensures { result ≡ runs.whole self }
     {
-        WaveStore {
-            simulation,
-            log,
-            stop,
-            limit,
-            ended: None,
-        }
+        let WaveStore { run } = self;
+        run
     }
 
-    /// The same store, with what its processes own divided into about this many shares, each of which
-    /// is handed out by itself. If allocation fails, it is lost.
-    pub fn divide(self, alloc: Global, shares: usize) -> Result<WaveStore, AllocError>
-        ensures { IfOk result (λ s. s ≡ self) }
+    /// The store of a run of which no records were given away.
+    pub fn of_run(run: Run) -> WaveStore
+        requires { run.given ≡ 0 }
+        ensures { result ≡ run.store }
     {
-        let WaveStore {
-            simulation,
-            log,
-            stop,
-            limit,
-            ended,
-        } = self;
-        let simulation = simulation.divide(alloc, shares)?;
-        Ok(WaveStore {
-            simulation,
-            log,
-            stop,
-            limit,
-            ended,
-        })
-    }
-
-    /// Whether the run has not ended, and no process has been executed in this phase.
-    pub fn is_untouched(&self) -> bool
-        ensures { result ≡ true → hands.IsUntouched self.now }
-    {
-        if self.ended.is_some() {
-            return false;
-        }
-        self.simulation.is_untouched()
-    }
-
-    /// About how many steps it takes to execute a process. It is a hint for dividing work among
-    /// threads, and nothing is promised of it.
-    pub fn mean_length(&self) -> usize {
-        self.simulation.mean_length()
-    }
-
-    /// Whether at least so many due processes have something to do: those not known to lack the edge
-    /// without which they do nothing. It is a hint for dividing work among threads, and nothing is
-    /// promised of it.
-    pub fn has_busy(&self, least: usize) -> bool {
-        self.simulation.has_busy(least)
-    }
-
-    /// Hands out what the processes own, so that due ones can be executed elsewhere: all processes,
-    /// in their order, each share in one order. If allocation fails, the store is lost.
-    pub fn hand_out<D: DesignType>(
-        self,
-        alloc: Global,
-    ) -> Result<(HandedOutStore<D>, Vec<Order<D>>), AllocError>
-        requires design { self.simulation.design ≡ D.design }
-        requires untouched { hands.IsUntouched self }
-        ensures store { IfOk result (λ r. r.0.store ≡ self) }
-        ensures orders { IfOk result (λ r. hands.AreAll r.0 r.1.items) }
-    {
-        let WaveStore {
-            simulation,
-            log,
-            stop,
-            limit,
-            ended: _,
-        } = self;
-        hand_out_phase::<D>(alloc, simulation, log, stop, limit)
+        WaveStore { run }
     }
 
     /// Goes on once all due processes have been executed (14.7.5.3): to the postponed processes of
@@ -321,68 +211,12 @@ impl WaveStore {
     /// time, and `LimitReached` if the limit would be passed; the run has then ended, and its
     /// records stay. Refusals: `Ended`, `Missing` with the least process not executed, `Memory`, in
     /// this order. Only lists of the store grow, and they keep their allocator.
-    pub fn advance(&mut self, _alloc: Global) -> Result<Step, StoreError>
+    pub fn advance(&mut self, alloc: Global) -> Result<Step, StoreError>
         ensures ok { IfOk result (λ s. spec.IsAdvanced self.old self.new s) }
         ensures err { IfErr result (spec.IsAdvanceRefusal self.old) }
         ensures kept { OnErr result (self.new ≡ self.old) }
     {
-        if let Some(_step) = self.ended {
-            return Err(StoreError::Ended);
-        }
-        if let Some(process) = self.simulation.missing() {
-            return Err(StoreError::Missing { process });
-        }
-        self.go_on()
-    }
-
-    /// Goes on once all due processes have been executed.
-    fn go_on(&mut self) -> Result<Step, StoreError>
-        requires open { spec.IsOpen self.old }
-        requires complete { simulations.IsComplete self.old.simulation }
-        ensures ok { IfOk result (λ s. spec.WentOn self.old self.new s) }
-        ensures err { IfErr result (λ e. e ≡ refusal.Memory) }
-        ensures kept { OnErr result (self.new ≡ self.old) }
-    {
-        match self.simulation.upcoming()? {
-            // h) No delta cycle follows: postponed processes that wait are executed.
-            Upcoming::Postponed => {
-                self.simulation.begin_postponed();
-                Ok(Step::Postponed)
-            }
-            // h.5) One of them has caused a delta cycle, which is an error.
-            Upcoming::PostponedDelta => Ok(self.end(Step::PostponedDelta)),
-            // a) The next cycle is carried out, or simulation is complete.
-            Upcoming::Cycle(time) if time <= self.stop => self.go_to(time),
-            _ => Ok(self.end(Step::Finished)),
-        }
-    }
-
-    /// Begins the cycle at this time, in femtoseconds, if the limit allows it.
-    fn go_to(&mut self, time: u64) -> Result<Step, StoreError>
-        requires open { spec.IsOpen self.old }
-        requires executed { simulations.IsExecuted self.old.simulation }
-        requires next { simulations.next_after self.old.simulation ≡ Some (CycleAt time) }
-        requires until { time ≤ self.old.stop }
-        ensures ok { IfOk result (λ s. spec.WentOn self.old self.new s) }
-        ensures err { IfErr result (λ e. e ≡ refusal.Memory) }
-        ensures kept { OnErr result (self.new ≡ self.old) }
-    {
-        if self.simulation.cycles() == self.limit as usize {
-            return Ok(self.end(Step::LimitReached));
-        }
-        self.simulation.go_on(time, &mut self.log)?;
-        Ok(Step::Next)
-    }
-
-    /// Ends the run.
-    fn end(&mut self, step: Step) -> Step
-        requires executed { simulations.IsExecuted self.old.simulation }
-        requires end { spec.HasEnd self.old step }
-        ensures step { result ≡ step }
-        ensures ended { self.new ≡ spec.ended_as self.old step }
-    {
-        self.ended = Some(step);
-        step
+        self.run.advance(alloc)
     }
 
     /// How the run ended; `None` if it has not.
@@ -390,28 +224,28 @@ impl WaveStore {
         ensures value { result ≡ self.now.ended }
         ensures end { MatchOption result Unit (λ s. simulations.IsExecuted self.now.simulation × spec.HasEnd self.now s) }
     {
-        self.ended
+        self.run.ended()
     }
 
     /// The design.
     pub fn design(&self) -> &Design
         ensures { result.now ≡ self.now.simulation.design }
     {
-        self.simulation.design()
+        self.run.design()
     }
 
     /// The stop time, in femtoseconds.
     pub fn stop(&self) -> u64
         ensures { result ≡ self.now.stop }
     {
-        self.stop
+        self.run.stop()
     }
 
     /// The number of cycles that the run may have.
     pub fn limit(&self) -> u32
         ensures { result ≡ self.now.limit }
     {
-        self.limit
+        self.run.limit()
     }
 
     /// The numbers of the processes that this phase executes, rising, whether or not they have been
@@ -420,10 +254,10 @@ impl WaveStore {
         ensures value { result.now ≡ spec.due_of self.now }
         ensures few { length result.now ≤ most }
     {
-        if self.ended.is_some() {
+        if self.run.ended().is_some() {
             return &[];
         }
-        self.simulation.due()
+        self.run.simulation().due()
     }
 
     /// How far the run has come. It also shows that the run is within its bounds, and that the
@@ -433,14 +267,7 @@ impl WaveStore {
         ensures within { spec.IsWithin self.now }
         ensures rising { simulations.AreRising self.now.simulation }
     {
-        let (time, delta) = self.simulation.time();
-        self.simulation.are_records();
-        Look {
-            records: self.log.len(),
-            time,
-            delta,
-            events: self.simulation.events(self.log.count()),
-        }
+        self.run.look()
     }
 
     /// The value of the net with a number, which is that of its last change in the records; `None`
@@ -450,7 +277,7 @@ impl WaveStore {
             (λ v. (net < length self.now.simulation.design.nets) × (v ≡ (net_at (simulations.reached self.now.simulation).nets net).value)) }
         ensures records { IfSome result (λ v. value_by (records_to self.now.simulation.design self.now.simulation.cycles) net ≡ Some v) }
     {
-        self.simulation.value(net)
+        self.run.simulation().value(net)
     }
 
     /// The number of events of the net with a number after the initialization, which is its number
@@ -460,7 +287,7 @@ impl WaveStore {
             (λ t. (net < length self.now.simulation.design.nets)
             × (t ≡ total_of (records_to self.now.simulation.design self.now.simulation.cycles) net)) }
     {
-        self.simulation.total(net)
+        self.run.simulation().total(net)
     }
 
     /// The log of all records, not copied: entries from which the time and the delta number of each
@@ -468,9 +295,9 @@ impl WaveStore {
     pub fn history(&self) -> &Log
         ensures records { result.now.records ≡ records_to self.now.simulation.design self.now.simulation.cycles }
         ensures named { All (IsNamed (length self.now.simulation.design.nets)) result.now.records }
+        ensures past { result.now.past ≡ no_past }
     {
-        self.simulation.are_records();
-        &self.log
+        self.run.log()
     }
 
     /// The records from a number on; none if the number is that of all records. Refusals: `Behind`
@@ -481,12 +308,13 @@ impl WaveStore {
         ensures named { IfOk result (λ v. All (IsNamed (length self.now.simulation.design.nets)) v.items) }
         ensures err { IfErr result (spec.IsRecordsRefusal self.now number) }
     {
-        self.simulation.are_records();
-        let records = self.log.len();
+        self.run.simulation().each_cycle_is_recorded();
+        let log = self.run.log();
+        let records = log.len();
         if number > records {
             return Err(StoreError::Behind { records });
         }
-        let found = records_from(alloc, &self.log, number)?;
+        let found = records_from(alloc, log, number)?;
         Ok(found)
     }
 }

@@ -11,3 +11,4 @@ pub mod Assignments
 pub mod Crossing
 pub mod Reading
 pub mod Recorded
+pub mod Changes

@@ -6,7 +6,8 @@ use Rattle.sim_logic.specs.declared.logic.Logic.{Logic}
 use Rattle.sim_standard.specs.declared.record.Record.{Record}
 use Rattle.sim_store_state.specs.declared.log.Entry.{Entry}
 use Rattle.sim_store_state.specs.declared.log.Entry.TheVariants as entry
-use Rattle.sim_store_state.specs.Log.{begun, changes_before, changes_of, count_times, delta_after, records_after, records_in}
+use Rattle.sim_store_state.specs.declared.log.Past.{Past}
+use Rattle.sim_store_state.specs.Log.{begun, changes_before, changes_of, count_times, delta_after, no_past, records_after, records_in}
 use Rattle.sim_store_state.proofs.Logged.{changes-more, count-append, delta-append}
 use Rattle.sim_store_simulation.specs.declared.history.Place.{Place}
 use Rattle.sim_store_simulation.specs.History.{count_leading, count_records, last_time, passed, records_beyond}
@@ -302,7 +303,7 @@ records-counted times p (entry.QuietDelta ∷ es) = ap suc (records-counted time
 records-counted times p (entry.QuietTime ∷ es) = ap suc (records-counted times (passed times p entry.QuietTime) es)
 
 -- so these are all records of a log
-pub all-counted : (times : List ℕ) (es : List Entry) → length (records_in times es) ≡ count_records es
+pub all-counted : (times : List ℕ) (es : List Entry) → length (records_in no_past times es) ≡ count_records es
 all-counted times es = records-counted times (record { times = 0; time = 0; delta = 0 }) es
 
 -- without the records that begin in the first entries, those of the rest are left
@@ -317,7 +318,7 @@ drop-records times p (entry.QuietTime ∷ es) fs = drop-records times (passed ti
 
 -- the place before an entry: how many times begin before it, and the time and the delta number of the record before it
 from-place : (times : List ℕ) (es : List Entry) (n : ℕ)
-    → drop (count_records (take n es)) (records_in times es)
+    → drop (count_records (take n es)) (records_in no_past times es)
     ≡ records_beyond times (record {
       times = count_times (take n es);
       time = last_time times (count_times (take n es));
@@ -326,7 +327,7 @@ from-place : (times : List ℕ) (es : List Entry) (n : ℕ)
 from-place times es n =
     let q = place_after times first (take n es) in
     let at : q.times ≡ count_times (take n es) = omega (arith, place-times times first (take n es)) in
-    ap (λ w. drop (count_records (take n es)) (records_in times w)) (sym (take-append-drop n es))
+    ap (λ w. drop (count_records (take n es)) (records_in no_past times w)) (sym (take-append-drop n es))
     ∙ (drop-records times first (take n es) (drop n es)
     ∙ (ap (λ t. records_after times t q.time q.delta (drop n es)) at
     ∙ (ap (λ t. records_after times (count_times (take n es)) t q.delta (drop n es)) (place-time times first (take n es) refl ∙ ap (last_time times) at)
@@ -336,8 +337,13 @@ from-place times es n =
     first : Place
     first = record { times = 0; time = 0; delta = 0 }
 
+-- the records of a log of a whole run, read from its start
+pub from_start : (past : Past) (times : List ℕ) (es : List Entry) (records : List Record) → past ≡ no_past → records_in past times es ≡ records
+    → records_in no_past times es ≡ records
+from_start past times es records none e = ap (λ (p : Past). records_in p times es) (sym none) ∙ e
+
 -- so from there the records from a number on are read
-pub from-number : (times : List ℕ) (es : List Entry) (n number : ℕ) (p : Place) (records : List Record) → records_in times es ≡ records
+pub from-number : (times : List ℕ) (es : List Entry) (n number : ℕ) (p : Place) (records : List Record) → records_in no_past times es ≡ records
     → count_records (take n es) ≡ number
     → count_times (take n es) ≡ p.times
     → p.time ≡ last_time times p.times
@@ -349,4 +355,4 @@ from-number times es n number p records er en et ep ed =
     ed
     ∙ (ap (λ t. records_after times t p.time delta (drop n es)) (sym et)
     ∙ (ap (λ t. records_after times (count_times (take n es)) t delta (drop n es)) time
-    ∙ (sym (from-place times es n) ∙ (ap (λ k. drop k (records_in times es)) en ∙ ap (drop number) er))))
+    ∙ (sym (from-place times es n) ∙ (ap (λ k. drop k (records_in no_past times es)) en ∙ ap (drop number) er))))

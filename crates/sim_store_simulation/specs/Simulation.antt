@@ -1,7 +1,7 @@
 -- How far a simulation has come (IEEE 1076-2008, 14.7.5).
 -- `simulate` does not rest on this file; what a store shows under a lock does.
 use Rattle.std.specs.Prelude.{ℕ, suc, ◌≡◌, ◌≢◌, ◌<◌, ◌≤◌, ◌&&◌, ◌||◌, not, List, [], Bool, true, false, if◌then◌else◌, Option, None, Some, map, length}
-use Rattle.std.specs.Prelude.{filter, replicate, slice_index_or, slice_set}
+use Rattle.std.specs.Prelude.{◌++◌, filter, replicate, slice_index_or, slice_set}
 use Rattle.std.specs.List.{All, range_with_len}
 use Rattle.sim_flat_design.specs.Designs.{Design, most}
 use Rattle.sim_flat_design.specs.Processes.{IsProcess}
@@ -14,7 +14,7 @@ use Rattle.sim_exec_code.specs.Codes.{Coded, AreCodesOf, FitsAll}
 use Rattle.sim_standard.specs.declared.record.Record.{Record}
 use Rattle.sim_store_nets.specs.Nets.{sources_of}
 use Rattle.sim_store_state.specs.FlatState.{FlatState, flat_state_of}
-use Rattle.sim_store_state.specs.Log.{Logged}
+use Rattle.sim_store_state.specs.Log.{Logged, no_past}
 use Rattle.sim_store_state.specs.Sensitive.{AreSensitive}
 use Rattle.sim_standard.specs.Cycle.{is_at_once, is_waiting, first_executed, is_delta_next, processes_where}
 use Rattle.sim_standard.specs.Cycle.{Following, CycleAt, NothingPending, PostponedDelta, next_in}
@@ -22,7 +22,7 @@ use Rattle.sim_standard.specs.Midway.{updated_in}
 use Rattle.sim_standard.specs.Initialization.{first_state}
 use Rattle.sim_standard.specs.Agreement.{total_of}
 use Rattle.sim_standard.specs.Together.{together}
-use Rattle.sim_standard.specs.Records.{records_to}
+use Rattle.sim_standard.specs.Records.{all_changes, records_to}
 use Rattle.sim_store_simulation.specs.declared.phase.Phase.{Phase}
 use Rattle.sim_store_simulation.specs.declared.phase.Phase.TheVariants as phase
 use Rattle.sim_store_simulation.specs.declared.phase.Upcoming.{Upcoming}
@@ -134,9 +134,14 @@ pub record IsStateOf (h : Simulation) (time delta : ℕ) (held : FlatState) (due
 abbrev pub place_of : Simulation → ℕ × ℕ
 place_of h = ((reached h).time, (reached h).delta)
 
--- This log has all records so far.
-pub record IsWhole (h : Simulation) (log : Logged) : Type 0 where
-  pub records : log.records ≡ records_to h.design h.cycles
+-- This log has the records so far, but for the first, which were given away.
+pub record IsLogged (h : Simulation) (log : Logged) : Type 0 where
+  pub given : List Record
+  pub all : given ++ log.records ≡ records_to h.design h.cycles
+  pub records : log.past.records ≡ length given
+  pub changes : log.past.changes ≡ length (all_changes given)
+  pub begun : log.past.records ≡ 0 → log.past ≡ no_past
+  pub slow : log.past.delta ≤ log.past.records
   pub last : log.last ≡ place_of h
 
 -- no process is marked

@@ -1,7 +1,7 @@
 //! Records of a log.
 
 ghost use Rattle.std.specs.Prelude.{ℕ, ◌≡◌, ◌≤◌, ◌<◌, ◌+◌, ◌^◌, ◌++◌, ◌∷◌, List, [], length, drop, take, IfOk, OnOk};
-ghost use Rattle.sim_store_state.specs.Log.{begun, changes_of, count_times, delta_after, records_after, time_with};
+ghost use Rattle.sim_store_state.specs.Log.{begun, changes_of, count_times, delta_after, no_past, records_after, time_with};
 ghost use Rattle.sim_store_simulation.specs.History.{count_leading, count_records, last_time, records_beyond};
 ghost use Rattle.sim_store_simulation.specs.History as spec;
 
@@ -212,10 +212,11 @@ fn delta_before(entries: &[Entry], from: usize) -> u64
     last_delta(&entries[..from])
 }
 
-/// The records from a number on. Earlier records are read only if they are at the time of the first
-/// of these.
+/// The records from a number on, of a log of a whole run. Earlier records are read only if they are
+/// at the time of the first of these.
 pub fn records_from(alloc: Global, log: &Log, number: usize) -> Result<Vec<Record>, AllocError>
-    requires { number ≤ length log.now.records }
+    requires past { log.now.past ≡ no_past }
+    requires number { number ≤ length log.now.records }
     ensures { IfOk result (λ v. v.items ≡ drop number log.now.records) }
 {
     let (times, entries) = log.lists();

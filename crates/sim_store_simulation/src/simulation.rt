@@ -1,6 +1,6 @@
 //! A simulation of a design, so far (IEEE 1076-2008, 14.7.5).
 
-ghost use Rattle.std.specs.Prelude.{ℕ, suc, ◌≡◌, ◌<◌, ◌≤◌, ◌^◌, ◌+◌, Some, None, Option, true, false, [], ◌∷◌, length, replicate, drop, take};
+ghost use Rattle.std.specs.Prelude.{ℕ, suc, ◌≡◌, ◌<◌, ◌≤◌, ◌^◌, ◌+◌, ◌*◌, Some, None, Option, true, false, [], ◌∷◌, length, replicate, drop, take};
 ghost use Rattle.std.specs.Prelude.{not, ◌==◌, ◌&&◌, if◌then◌else◌, slice_set, MatchOption, MatchResult, IfSome, IfOk, IfErr, OnOk, OnErr, ◌↔◌, IsTrue};
 ghost use Rattle.std.specs.List.{All};
 ghost use Rattle.std.specs.Option.{option_eq};
@@ -16,6 +16,7 @@ ghost use Rattle.sim_logic.specs.Time.{largest_time};
 ghost use Rattle.sim_standard.specs.Agreement.{total_of, value_by};
 ghost use Rattle.sim_store_simulation.specs.Contents.{AreFirst, IsAtStart, IsOf, IsWith, simulation_of, unmarked_of};
 ghost use Rattle.sim_store_simulation.specs.Simulation as spec;
+ghost use Rattle.sim_store_state.specs.Log.{no_past};
 ghost use Rattle.sim_standard.specs.Cycle.{CycleAt};
 ghost use Rattle.sim_standard.specs.Midway.{updated_in};
 ghost use Rattle.sim_store_simulation.specs.declared.phase.Phase.TheVariants as phase;
@@ -27,7 +28,7 @@ use sim_containers::{NumberSet, RisingRows};
 use sim_exec::{Codes, Done, Frame, Job, Results};
 use sim_flat_design::{Design, Process};
 use sim_logic::Logic;
-use sim_store_state::{FlatState, Log, sensitive};
+use sim_store_state::{FlatState, Log, Past, sensitive};
 use std::alloc::{AllocError, Global};
 use std::marker::Model;
 
@@ -133,9 +134,10 @@ pub struct Contents {
 fn first_log(alloc: Global, state: &FlatState, design: &Design) -> Result<Log, AllocError>
     requires { state.now ≡ flat_state_of design.now (first_state design.now) }
     ensures records { IfOk result (λ l. l.records ≡ records_to design.now 0) }
+    ensures past { IfOk result (λ l. l.past ≡ no_past) }
     ensures last { IfOk result (λ l. l.last ≡ (0, 0)) }
 {
-    let mut log = Log::new(alloc);
+    let mut log = Log::new(alloc, Past::none());
     log.reserve(design.nets().len())?;
     state.record_all(&mut log, 0, 0);
     Ok(log)
@@ -245,6 +247,7 @@ fn begun(alloc: Global, design: &Design) -> Result<(Box<Contents>, Log), AllocEr
     ensures start { IfOk result (λ r. IsAtStart r.0.value) }
     ensures contents { IfOk result (λ r. AreFirst design.now r.0.value) }
     ensures records { IfOk result (λ r. r.1.records ≡ records_to design.now 0) }
+    ensures past { IfOk result (λ r. r.1.past ≡ no_past) }
     ensures last { IfOk result (λ r. r.1.last ≡ (0, 0)) }
 {
     let contents = boxed(alloc, design)?;
@@ -414,7 +417,8 @@ impl Simulation {
           phase = phase.NonPostponed;
           deposited = replicate (length design.processes) false;
         }) }
-        ensures log { IfOk result (λ r. spec.IsWhole r.0 r.1) }
+        ensures log { IfOk result (λ r. spec.IsLogged r.0 r.1) }
+        ensures past { IfOk result (λ r. r.1.past ≡ no_past) }
         ensures err { IfErr result (λ e. e.1 ≡ design) }
     {
         let _nets = design.nets();
@@ -554,9 +558,10 @@ impl Simulation {
         requires next { spec.next_after self.old ≡ Some (CycleAt time) }
         requires early { time ≤ largest_time }
         requires bound { self.old.cycles < 2 ^ 32 }
-        requires log { spec.IsWhole self.old log.old }
+        requires last { log.old.last ≡ spec.place_of self.old }
         ensures ok { OnOk result ((self.new ≡ spec.after self.old) × ((spec.reached self.new).time ≡ time)) }
-        ensures log { spec.IsWhole self.new log.new }
+        ensures log { spec.IsLogged self.old log.old → spec.IsLogged self.new log.new }
+        ensures past { log.new.past ≡ log.old.past }
         ensures err { OnErr result (self.new ≡ self.old) }
     {
         let nets = self.design.nets().len();
@@ -679,6 +684,7 @@ impl Simulation {
     /// The time, in femtoseconds, and the delta number of the last cycle.
     pub fn time(&self) -> (u64, u64)
         ensures value { result ≡ ((spec.reached self.now).time, (spec.reached self.now).delta) }
+        ensures slow { result.1 ≤ self.now.cycles }
         ensures there { updated_in self.now.design self.now.cycles ≡ Some (spec.updated_last self.now) }
         ensures rising { spec.AreRising self.now }
     {
@@ -712,10 +718,11 @@ impl Simulation {
         (changes - self.design.nets().len()) as u64
     }
 
-    /// Shows that there is a record of the initialization and one of each cycle, and that each change
-    /// is of a net.
-    pub fn are_records(&self)
+    /// Shows that there is a record of the initialization and one of each cycle, how many changes
+    /// they have at most, and that each change is of a net.
+    pub fn each_cycle_is_recorded(&self)
         ensures count { length (records_to self.now.design self.now.cycles) ≡ suc self.now.cycles }
+        ensures few { length (all_changes (records_to self.now.design self.now.cycles)) ≤ suc self.now.cycles * most }
         ensures named { All (IsNamed (length self.now.design.nets)) (records_to self.now.design self.now.cycles) }
     {
         let _contents = &*self.contents;

@@ -15,6 +15,7 @@ use Rattle.sim_standard.specs.declared.net_view.NetView.{NetView}
 use Rattle.sim_standard.specs.declared.record.Record.{Record}
 use Rattle.sim_standard.specs.Records.{all_changes, changes_from}
 use Rattle.sim_store_state.specs.declared.log.Entry.{Entry}
+use Rattle.sim_store_state.specs.declared.log.Past.{Past}
 use Rattle.sim_store_state.specs.declared.log.Entry.TheVariants as entry
 use Rattle.sim_store_state.specs.Log.{begun, changed, changes_before, changes_of, count_times, delta_after, first, last_record, record_at, recorded}
 use Rattle.sim_store_state.specs.Log.{last_in, records_after, records_in, time_after, time_with, IsLog, IsNext, IsRecorded, Logged}
@@ -252,35 +253,35 @@ abbrev pub times_with : List ℕ → Bool → ℕ → List ℕ
 times_with times is_time time = if is_time then times ++ time ∷ [] else times
 
 -- what is known once the entries of a record, and its time if it is a new one, are appended
-pub record Pushed (times : List ℕ) (entries : List Entry) (records changes last : ℕ) (before : List Record) (one : Record) : Type 0 where
-  pub log : IsLog times entries records changes last
-  pub are : records_in times entries ≡ before ++ one ∷ []
-  pub last_is : last_in times entries ≡ (one.time, one.delta)
+pub record Pushed (past : Past) (times : List ℕ) (entries : List Entry) (records changes last : ℕ) (before : List Record) (one : Record) : Type 0 where
+  pub log : IsLog past times entries records changes last
+  pub are : records_in past times entries ≡ before ++ one ∷ []
+  pub last_is : last_in past times entries ≡ (one.time, one.delta)
 
-module _ {times : List ℕ} {entries : List Entry} {records changes last : ℕ} (i : IsLog times entries records changes last) where
+module _ {past : Past} {times : List ℕ} {entries : List Entry} {records changes last : ℕ} (i : IsLog past times entries records changes last) where
   -- the records, given that those before them are not changed by a new time, and when the new one is
-  push : (rs : List Record) → records_in times entries ≡ rs → (b : Bool) (time delta : ℕ) (cs : List (ℕ × Logic)) (times' : List ℕ)
-      → records_in times' entries ≡ records_in times entries
-      → time-or b (time_with times' (count_times entries)) (time_after times' 0 0 entries) ≡ time
-      → time-or b 0 (suc (delta_after 0 entries)) ≡ delta
+  push : (rs : List Record) → records_in past times entries ≡ rs → (b : Bool) (time delta : ℕ) (cs : List (ℕ × Logic)) (times' : List ℕ)
+      → records_in past times' entries ≡ records_in past times entries
+      → time-or b (time_with times' (count_times entries)) (time_after times' 0 past.time entries) ≡ time
+      → time-or b 0 (suc (delta_after past.delta entries)) ≡ delta
       → length times' ≡ length times + (if b then 1 else 0)
-      → Pushed times' (entries ++ recorded b cs) (records + 1) (changes + length cs) (length entries) rs (begun time delta cs)
+      → Pushed past times' (entries ++ recorded b cs) (records + 1) (changes + length cs) (length entries) rs (begun time delta cs)
   push rs e b time delta cs times' same et ed el =
       let fs = recorded b cs in
       let r = begun time delta cs in
       let k = count_times entries in
       let ek : k ≡ 0 + count_times entries = omega arith in
-      let at = time_after times' 0 0 entries in
-      let of = delta_after 0 entries in
-      let are : records_in times' (entries ++ fs) ≡ rs ++ r ∷ [] =
-      records-append times' 0 k 0 0 entries fs (recorded-begins b cs) ek
-      ∙ (ap (λ w. records_in times' entries ++ w) (recorded-records times' k at of b cs
+      let at = time_after times' 0 past.time entries in
+      let of = delta_after past.delta entries in
+      let are : records_in past times' (entries ++ fs) ≡ rs ++ r ∷ [] =
+      records-append times' 0 k past.time past.delta entries fs (recorded-begins b cs) ek
+      ∙ (ap (λ w. records_in past times' entries ++ w) (recorded-records times' k at of b cs
       ∙ (ap (λ t. begun t (time-or b 0 (suc of)) cs ∷ []) et ∙ ap (λ m. begun time m cs ∷ []) ed))
       ∙ ap (λ w. w ++ r ∷ []) (same ∙ e)) in
       let long = length-append entries fs in
-      let last_one : last_record (records_in times' (entries ++ fs)) ≡ r = ap last_record are ∙ last-pushed rs r in
-      let last_time = time-append times' 0 k 0 entries fs ek ∙ (recorded-time times' k at b cs ∙ et) in
-      let last_delta = delta-append 0 entries fs ∙ (recorded-delta of b cs ∙ ed) in
+      let last_one : last_record (records_in past times' (entries ++ fs)) ≡ r = ap last_record are ∙ last-pushed rs r in
+      let last_time = time-append times' 0 k past.time entries fs ek ∙ (recorded-time times' k at b cs ∙ et) in
+      let last_delta = delta-append past.delta entries fs ∙ (recorded-delta of b cs ∙ ed) in
       record {
         log = record {
           counted = count-append entries fs ∙ omega (arith, i.counted, recorded-count b cs, el);
@@ -303,9 +304,9 @@ module _ {times : List ℕ} {entries : List Entry} {records changes last : ℕ} 
         last_is = λ j. (last_time j, last_delta j);
       }
 
-  pub log-push : (rs : List Record) → records_in times entries ≡ rs → (time delta : ℕ) (cs : List (ℕ × Logic))
-      → IsNext (last_in times entries) time delta
-      → Pushed (times_with times (delta == 0) time) (entries ++ recorded (delta == 0) cs) (records + 1) (changes + length cs) (length entries)
+  pub log-push : (rs : List Record) → records_in past times entries ≡ rs → (time delta : ℕ) (cs : List (ℕ × Logic))
+      → IsNext (last_in past times entries) time delta
+      → Pushed past (times_with times (delta == 0) time) (entries ++ recorded (delta == 0) cs) (records + 1) (changes + length cs) (length entries)
       rs (begun time delta cs)
   log-push rs e time delta cs next = go (delta == 0) refl
     where
@@ -313,10 +314,10 @@ module _ {times : List ℕ} {entries : List Entry} {records changes last : ℕ} 
       fits = omega (arith, i.counted)
 
       go : (b : Bool) → (delta == 0) ≡ b
-          → Pushed (times_with times b time) (entries ++ recorded b cs) (records + 1) (changes + length cs) (length entries) rs (begun time delta cs)
+          → Pushed past (times_with times b time) (entries ++ recorded b cs) (records + 1) (changes + length cs) (length entries) rs (begun time delta cs)
       go true f =
           let none : delta ≡ 0 = grind (arith, nat_tests) in
-          push rs e true time delta cs (times ++ time ∷ []) (records-more times (time ∷ []) 0 0 0 entries fits)
+          push rs e true time delta cs (times ++ time ∷ []) (records-more times (time ∷ []) 0 past.time past.delta entries fits)
           (with-last times time (count_times entries) i.counted) (sym none) (omega (arith, length-append times (time ∷ [])))
       go false f =
           let some : delta ≢ 0 = λ z. grind (arith, nat_tests) in
@@ -335,23 +336,24 @@ changes-few nets =
     )
 
 -- the same, as the code finds it: where the record starts, and where its changes end
-pub log-appended : {times : List ℕ} {entries : List Entry} {records changes last : ℕ} → IsLog times entries records changes last
-    → (rs : List Record) → records_in times entries ≡ rs → (time delta : ℕ) (cs : List (ℕ × Logic))
-    → (was : ℕ × ℕ) → last_in times entries ≡ was → IsNext was time delta
+pub log-appended : {past : Past} {times : List ℕ} {entries : List Entry} {records changes last : ℕ} → IsLog past times entries records changes last
+    → (rs : List Record) → records_in past times entries ≡ rs → (time delta : ℕ) (cs : List (ℕ × Logic))
+    → (was : ℕ × ℕ) → last_in past times entries ≡ was → IsNext was time delta
     → (start end : ℕ) (es entries' : List Entry) (times' : List ℕ) → start ≡ length entries → es ≡ entries ++ map changed cs → end ≡ length es
     → times' ≡ times_with times (delta == 0) time → entries' ≡ entries ++ recorded (delta == 0) cs
-    → Pushed times' entries' (records + 1) (changes + (end - start)) start rs (begun time delta cs)
+    → Pushed past times' entries' (records + 1) (changes + (end - start)) start rs (begun time delta cs)
 log-appended {entries = entries} {records = records} {changes = changes} i rs e time delta cs was ew next start end es entries' times' at ee el et en =
     let count : end - start ≡ length cs = omega (arith, at, el, ap length ee, length-append entries (map changed cs), length-map cs changed) in
     rw (et, en, count, at) (log-push i rs e time delta cs (subst (λ w. IsNext w time delta) (sym ew) next))
 
 -- so it is recorded
-pub is_recorded : {times : List ℕ} {entries : List Entry} {records changes last : ℕ} {rs : List Record} {one : Record}
-    → Pushed times entries records changes last rs one → (old new : Logged) → old.records ≡ rs
-    → new.records ≡ records_in times entries → new.last ≡ last_in times entries → IsRecorded old new one
-is_recorded {one = one} p old new er nr nl = record {
+pub is_recorded : {past : Past} {times : List ℕ} {entries : List Entry} {records changes last : ℕ} {rs : List Record} {one : Record}
+    → Pushed past times entries records changes last rs one → (old new : Logged) → old.records ≡ rs → old.past ≡ past
+    → new.records ≡ records_in past times entries → new.last ≡ last_in past times entries → new.past ≡ past → IsRecorded old new one
+is_recorded {one = one} p old new er es nr nl ns = record {
   records = nr ∙ (p.are ∙ ap (λ w. w ++ one ∷ []) (sym er));
   last = nl ∙ p.last_is;
+  past = ns ∙ sym es;
 }
 
 -- there is room for one more entry after the changes of a record

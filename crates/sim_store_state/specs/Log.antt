@@ -1,15 +1,18 @@
 -- Records, held as a flat list of entries and the times at which they begin.
 -- `simulate` does not rest on this file; what a store shows under a lock does.
-use Rattle.std.specs.Prelude.{ℕ, suc, ◌-◌, ◌<◌, ◌≡◌, ◌≢◌, ◌≤◌, List, [], ◌∷◌, ◌++◌, Bool, true, false, length, map, drop, slice_index_or}
+use Rattle.std.specs.Prelude.{ℕ, suc, ◌+◌, ◌-◌, ◌<◌, ◌≡◌, ◌≢◌, ◌≤◌, List, [], ◌∷◌, ◌++◌, Bool, true, false, length, map, drop, slice_index_or}
 use Rattle.sim_logic.specs.declared.logic.Logic.{Logic}
 use Rattle.sim_standard.specs.declared.record.Record.{Record}
 use Rattle.sim_standard.specs.Records.{all_changes}
 use Rattle.sim_store_state.specs.declared.log.Entry.{Entry}
+use Rattle.sim_store_state.specs.declared.log.Past.{Past}
 use Rattle.sim_store_state.specs.declared.log.Entry.TheVariants as entry
 
--- a log: its records, the time and the delta number of the last one, and room for how many more times and entries it has
+-- a log: its records, those before them that were given away, the time and the delta number of the last of all these, and room for how many more times and
+-- entries it has
 pub record Logged : Type 0 where
   pub records : List Record
+  pub past : Past
   pub last : ℕ × ℕ
   pub times_room : ℕ
   pub entries_room : ℕ
@@ -60,9 +63,9 @@ records_after times n time delta (entry.QuietDelta ∷ entries) =
 records_after times n time delta (entry.QuietTime ∷ entries) =
     begun (time_with times n) 0 (changes_before entries) ∷ records_after times (suc n) (time_with times n) 0 entries
 
--- the records in these lists
-abbrev pub records_in : List ℕ → List Entry → List Record
-records_in times entries = records_after times 0 0 0 entries
+-- the records in these lists, after those that were given away
+abbrev pub records_in : Past → List ℕ → List Entry → List Record
+records_in past times entries = records_after times 0 past.time past.delta entries
 
 -- how many of these entries begin a record at a new time
 abbrev pub count_times : List Entry → ℕ
@@ -91,9 +94,9 @@ delta_after delta (entry.Time value net ∷ entries) = delta_after 0 entries
 delta_after delta (entry.QuietDelta ∷ entries) = delta_after (suc delta) entries
 delta_after delta (entry.QuietTime ∷ entries) = delta_after 0 entries
 
--- the time and the delta number of the last record in these lists
-abbrev pub last_in : List ℕ → List Entry → ℕ × ℕ
-last_in times entries = (time_after times 0 0 entries, delta_after 0 entries)
+-- the time and the delta number of the last record in these lists, after those that were given away
+abbrev pub last_in : Past → List ℕ → List Entry → ℕ × ℕ
+last_in past times entries = (time_after times 0 past.time entries, delta_after past.delta entries)
 
 -- ---- how a record is written
 
@@ -131,23 +134,38 @@ pub record IsNext (last : ℕ × ℕ) (time delta : ℕ) : Type 0 where
   pub time_is : delta ≢ 0 → time ≡ last.0
   pub delta_is : delta ≢ 0 → delta ≡ suc last.1
 
+-- no records were given away; a run starts at time 0
+abbrev pub no_past : Past
+no_past = record { records = 0; changes = 0; time = 0; delta = 0 }
+
+-- what is known of these records, and those before them, once they were given away, of which the last has this time and delta number
+abbrev pub past_after : Past → List Record → ℕ × ℕ → Past
+past_after past records last = record {
+  records = past.records + length records;
+  changes = past.changes + length (all_changes records);
+  time = last.0;
+  delta = last.1;
+}
+
 -- A log has the same records, whatever room.
 pub record IsSameLog (old new : Logged) : Type 0 where
   pub records : new.records ≡ old.records
+  pub past : new.past ≡ old.past
   pub last : new.last ≡ old.last
 
 -- One more record is at the end of a log.
 pub record IsRecorded (old new : Logged) (one : Record) : Type 0 where
   pub records : new.records ≡ old.records ++ one ∷ []
   pub last : new.last ≡ (one.time, one.delta)
+  pub past : new.past ≡ old.past
 
 -- These lists, and numbers of records and changes, are those of a log whose last record has its entries from this place on.
-pub record IsLog (times : List ℕ) (entries : List Entry) (records changes last : ℕ) : Type 0 where
+pub record IsLog (past : Past) (times : List ℕ) (entries : List Entry) (records changes last : ℕ) : Type 0 where
   pub counted : count_times entries ≡ length times
   pub begins : changes_before entries ≡ []
-  pub records_are : records ≡ length (records_in times entries)
-  pub changes_are : changes ≡ length (all_changes (records_in times entries))
+  pub records_are : records ≡ length (records_in past times entries)
+  pub changes_are : changes ≡ length (all_changes (records_in past times entries))
   pub few_records : records ≤ length entries
   pub few_changes : changes ≤ length entries
   pub within : last ≤ length entries
-  pub last_are : changes_of (drop last entries) ≡ (last_record (records_in times entries)).changes
+  pub last_are : changes_of (drop last entries) ≡ (last_record (records_in past times entries)).changes

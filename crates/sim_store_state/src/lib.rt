@@ -11,7 +11,7 @@ mod start;
 mod updating;
 
 pub use flat_state::{FlatState, Part};
-pub use log::{Entry, Log};
+pub use log::{Entry, Log, Past};
 pub use resumption::{find_resumed, find_resumed_by_one, sensitive};
 pub use sim_standard::Record;
 pub use sim_store_nets::{UpdateLists, Values};

@@ -7,7 +7,7 @@ ghost use Rattle.sim_store_nets.specs.Lists.{AreUnresolved, IsUnresolved, net_fr
 ghost use Rattle.sim_store_nets.specs.Nets.{value_at, views_of};
 ghost use Rattle.sim_standard.specs.Records.{all_changes, changes_from};
 ghost use Rattle.sim_store_state.specs.Counting.{AreCountable, AreCounted, change_of};
-ghost use Rattle.sim_store_state.specs.Log.{changed, changes_before, changes_of, count_times, last_record, recorded, records_in};
+ghost use Rattle.sim_store_state.specs.Log.{changed, changes_before, changes_of, count_times, last_record, past_after, recorded, records_in};
 ghost use Rattle.sim_store_state.specs.Log.{HasRoom, IsNext, IsRecorded, IsSameLog};
 ghost use Rattle.sim_store_state.specs.Log as spec;
 
@@ -15,6 +15,7 @@ use sim_logic::Logic;
 use sim_store_nets::{UpdateLists, Values};
 use std::alloc::{AllocError, Global};
 use std::marker::Model;
+use std::mem;
 
 /// An entry of a log, in eight bytes: a change, which is the new value of a net and its number, and
 /// whether a record begins with it. A record without changes has an entry of its own.
@@ -182,9 +183,35 @@ fn begin_record(times: &mut Vec<u64>, entries: &mut Vec<Entry>, start: usize, ti
     begin_entries(entries, start, is_time);
 }
 
-/// The records of a run: entries, and the times at which records begin. So a record of one change
-/// takes 8 bytes, and 16 if it is the first at its time.
+/// The records of a run that were given away: how many there are, how many changes they have, and
+/// the time, in femtoseconds, and the delta number of the last one.
+#[derive(Clone, Copy)]
+pub struct Past {
+    pub records: usize,
+    pub changes: usize,
+    pub time: u64,
+    pub delta: u64,
+}
+
+impl Past {
+    /// No records. A run starts at time 0.
+    pub fn none() -> Past
+        ensures { result ≡ spec.no_past }
+    {
+        Past {
+            records: 0,
+            changes: 0,
+            time: 0,
+            delta: 0,
+        }
+    }
+}
+
+/// Records of a run: entries, and the times at which records begin. So a record of one change takes
+/// 8 bytes, and 16 if it is the first at its time.
 pub struct Log {
+    /// The records before these.
+    past: Past,
     times: Vec<u64>,
     entries: Vec<Entry>,
     /// How many records there are.
@@ -199,6 +226,7 @@ pub struct Log {
 impl Drop for Log {
     fn drop(self) {
         let Log {
+            past: _,
             times,
             entries,
             records: _,
@@ -217,22 +245,25 @@ impl Model for Log {
     ghost Value = { Logged };
 
     ghost view = { λ s. record {
-      records = records_in s.times.items s.entries.items;
-      last = last_in s.times.items s.entries.items;
+      records = records_in s.past s.times.items s.entries.items;
+      past = s.past;
+      last = last_in s.past s.times.items s.entries.items;
       times_room = vec_capacity s.times - vec_len s.times;
       entries_room = vec_capacity s.entries - vec_len s.entries;
     } };
 
-    ghost invariant = { λ s. IsLog s.times.items s.entries.items s.records s.changes s.last };
+    ghost invariant = { λ s. IsLog s.past s.times.items s.entries.items s.records s.changes s.last };
 }
 
 impl Log {
-    /// A log without records, which seems to be at time 0. It takes no memory.
-    pub fn new(alloc: Global) -> Log
+    /// A log without records, after those that were given away. It takes no memory.
+    pub fn new(alloc: Global, past: Past) -> Log
         ensures records { result.records ≡ [] }
-        ensures last { result.last ≡ (0, 0) }
+        ensures past { result.past ≡ past }
+        ensures last { result.last ≡ (past.time, past.delta) }
     {
         Log {
+            past,
             times: Vec::new(alloc),
             entries: Vec::new(alloc),
             records: 0,
@@ -255,9 +286,16 @@ impl Log {
         self.changes
     }
 
+    /// The records before these, which were given away.
+    pub fn past(&self) -> Past
+        ensures { result ≡ self.now.past }
+    {
+        self.past
+    }
+
     /// The times at which records begin, and the entries, by which the records are read.
     pub fn lists(&self) -> (&[u64], &[Entry])
-        ensures records { records_in result.0.now result.1.now ≡ self.now.records }
+        ensures records { records_in self.now.past result.0.now result.1.now ≡ self.now.records }
         ensures times { count_times result.1.now ≡ length result.0.now }
         ensures begins { changes_before result.1.now ≡ [] }
     {
@@ -270,6 +308,33 @@ impl Log {
         ensures { changes_of result.now ≡ (last_record self.now.records).changes }
     {
         &self.entries[self.last..]
+    }
+
+    /// Gives its records away, of which the last has this time and delta number. Those to come are
+    /// after them.
+    pub fn give(&mut self, alloc: Global, last: (u64, u64)) -> Log
+        requires last { last ≡ self.old.last }
+        requires records { self.old.past.records + length self.old.records < 2 ^ 64 }
+        requires changes { self.old.past.changes + length (all_changes self.old.records) < 2 ^ 64 }
+        ensures given { result ≡ self.old }
+        ensures empty { self.new.records ≡ [] }
+        ensures past { self.new.past ≡ past_after self.old.past self.old.records last }
+        ensures last { self.new.last ≡ last }
+    {
+        let past = Past {
+            records: self.past.records + self.records,
+            changes: self.past.changes + self.changes,
+            time: last.0,
+            delta: last.1,
+        };
+        mem::replace(self, Log::new(alloc, past))
+    }
+
+    /// Whether it has at least so many entries: one for each change, and one for each record without
+    /// changes.
+    #[inline(always)]
+    pub fn has_entries(&self, least: usize) -> bool {
+        self.entries.len() >= least
     }
 
     /// Makes room for a record of at most this number of changes. The records stay.

@@ -8,7 +8,7 @@ use crate::scripts::put_answers;
 use crate::texts::{EXCHANGE, IDLE, NOTHING, POSTPONED, flat, go_on};
 use sim_flat_design::Design;
 use sim_logic::LATEST;
-use sim_store::{Answer, DesignType, HandOutError, HandedOutStore, Order, WaveStore};
+use sim_store::{Answer, DesignType, HandOutError, HandedOutStore, Order, Run, WaveStore};
 use std::alloc::{AllocError, Global};
 use std::marker::Brand;
 use std::test::Fail;
@@ -63,18 +63,19 @@ static DIVIDED: [(&str, usize, usize); 8] = [
     (IDLE, 3, 2),
 ];
 
-/// A store of a copy of a design after some phases, with its processes in this many shares.
-fn begun(alloc: Global, design: &Design, phases: usize, shares: usize) -> Option<WaveStore>
-    ensures { IfSome result (λ s. s.simulation.design ≡ design.now) }
+/// The run of a copy of a design after some phases, with its processes in this many shares.
+fn begun(alloc: Global, design: &Design, phases: usize, shares: usize) -> Option<Run>
+    ensures design { IfSome result (λ r. r.store.simulation.design ≡ design.now) }
+    ensures whole { IfSome result (λ r. r.given ≡ 0) }
 {
     let copy = design.try_copy().ok()?;
     let mut store = WaveStore::new(alloc, copy, LATEST, 100).ok()?;
     go_on(alloc, &mut store, phases);
-    let store = store.divide(alloc, shares).ok()?;
-    if !store.design().same(design) {
+    let run = store.into_run().divide(alloc, shares).ok()?;
+    if !run.design().same(design) {
         return None;
     }
-    Some(store)
+    Some(run)
 }
 
 /// The answers to orders, in their order.
@@ -134,46 +135,41 @@ fn put_taken_back<D: DesignType>(
     alloc: Global,
     handed_out: HandedOutStore<D>,
     answers: Vec<Answer<D>>,
-) {
+)
+    requires { handed_out.run.given ≡ 0 }
+{
     match handed_out.take_back(alloc, answers) {
-        Ok(store) => put_next(line, alloc, store),
+        Ok(run) => put_next(line, alloc, WaveStore::of_run(run)),
         Err(HandOutError::Stranger) => line.put("Stranger"),
         Err(HandOutError::OrderLeft) => line.put("OrderLeft"),
         Err(HandOutError::Memory) => line.put("Memory"),
     }
 }
 
-/// A store of which a phase is handed out, and the orders; `None` if memory runs out.
-fn handed<D: DesignType>(
-    alloc: Global,
-    store: WaveStore,
-) -> Option<(HandedOutStore<D>, Vec<Order<D>>)>
-    requires { store.simulation.design ≡ D.design }
+/// A run of which a phase is handed out, and the orders; `None` if memory runs out.
+fn handed<D: DesignType>(alloc: Global, run: Run) -> Option<(HandedOutStore<D>, Vec<Order<D>>)>
+    requires { run.store.simulation.design ≡ D.design }
+    ensures { IfSome result (λ r. r.0.run.given ≡ run.given) }
 {
-    if !store.is_untouched() {
+    if !run.is_untouched() {
         return None;
     }
-    store.hand_out::<D>(alloc).ok()
+    run.hand_out::<D>(alloc).ok()
 }
 
 /// The orders alone.
-fn orders_of<D: DesignType>(alloc: Global, store: WaveStore) -> Option<Vec<Order<D>>>
-    requires { store.simulation.design ≡ D.design }
+fn orders_of<D: DesignType>(alloc: Global, run: Run) -> Option<Vec<Order<D>>>
+    requires { run.store.simulation.design ≡ D.design }
 {
-    let (_handed_out, orders) = handed::<D>(alloc, store)?;
+    let (_handed_out, orders) = handed::<D>(alloc, run)?;
     Some(orders)
 }
 
-/// Hands out a phase of a store and one of another, and appends the result of the answers.
-fn put_handed<D: DesignType>(
-    line: &mut Line,
-    alloc: Global,
-    own: WaveStore,
-    other: WaveStore,
-    given: Given,
-)
-    requires own { own.simulation.design ≡ D.design }
-    requires other { other.simulation.design ≡ D.design }
+/// Hands out a phase of a run and one of another, and appends the result of the answers.
+fn put_handed<D: DesignType>(line: &mut Line, alloc: Global, own: Run, other: Run, given: Given)
+    requires own { own.store.simulation.design ≡ D.design }
+    requires whole { own.given ≡ 0 }
+    requires other { other.store.simulation.design ≡ D.design }
 {
     let Some(others) = orders_of::<D>(alloc, other) else {
         return line.put("no orders of the other");
@@ -200,10 +196,10 @@ fn put_row(line: &mut Line, alloc: Global, design: &Design, row: &Row<'_>) {
 
 /// The result if all processes are executed in the store.
 fn put_executed(line: &mut Line, alloc: Global, design: &Design, phases: usize) {
-    let Some(store) = begun(alloc, design, phases, 1) else {
+    let Some(run) = begun(alloc, design, phases, 1) else {
         return line.put("no store");
     };
-    match store.execute_due(alloc) {
+    match WaveStore::of_run(run).execute_due(alloc) {
         Ok(store) => put_next(line, alloc, store),
         Err(_refused) => line.put("no memory"),
     }

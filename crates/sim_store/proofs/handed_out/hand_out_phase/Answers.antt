@@ -3,7 +3,7 @@ use Rattle.std.specs.Arc.{arc_value}
 use Rattle.sim_store_state.specs.FlatState.{AreShares}
 use Rattle.sim_store.specs.Handing.{PhaseInput}
 use Rattle.sim_store.specs.Retained.{IsRetained, retained_of}
-use Rattle.sim_store_simulation.specs.Simulation.{Simulation, IsWhole, those_in}
+use Rattle.sim_store_simulation.specs.Simulation.{Simulation, IsLogged, those_in}
 use Rattle.sim_store.specs.WaveStore.{IsStore}
 use Rattle.sim_store.proofs.Orders.{sum-counts}
 use Rattle.sim_store.proofs.handed_out.hand_out_phase.Goals as goal
@@ -23,5 +23,5 @@ invariant_of-handed_out g c =
       subst (λ (h : Simulation). IsStore (record { simulation = h; stop = c.args.stop; limit = c.args.limit; ended = None })) (sym same) c.requires.bounds,
       subst AreShares (sym c.in_ok-input.ensures.lengths) c.split_contents-input.ensures.shares,
       ap sum c.in_ok-input.ensures.lengths ∙ (sum-counts c.split_contents-input.result.1.items ∙ c.split_contents-input.ensures.all),
-      subst (λ (h : Simulation). IsWhole h c.args.log) (sym same) c.requires.log,
+      subst (λ (h : Simulation). IsLogged h c.args.log) (sym same) c.requires.log,
     )

@@ -1,5 +1,5 @@
 use Rattle.sim_store_tests.proofs.orders.put_divided.Given as goal
 
--- the design is that of the store whose phase is handed out
+-- the design is that of the run whose phase is handed out
 abbrev pub ghosts-put_handed : goal.ghosts-put_handed
-ghosts-put_handed a = record { design = a.own.simulation.design }
+ghosts-put_handed a = record { design = a.own.store.simulation.design }

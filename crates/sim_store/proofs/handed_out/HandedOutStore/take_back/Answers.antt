@@ -2,10 +2,11 @@ use Rattle.std.proofs.Common.{◌≡◌, None, refl, sum, ap, sym, ◌∙◌, su
 use Rattle.std.specs.Arc.{arc_value}
 use Rattle.sim_store.specs.Handing.{PhaseInput}
 use Rattle.sim_store.specs.Retained.{retained_of}
-use Rattle.sim_store_simulation.specs.Simulation.{Simulation, IsComplete, IsWhole, with_marks}
-use Rattle.sim_store.specs.WaveStore.{WaveStore, IsStore}
+use Rattle.sim_store_simulation.specs.Simulation.{Simulation, IsComplete, IsLogged, with_marks}
+use Rattle.sim_store.specs.Run.{Run}
+use Rattle.sim_store.specs.WaveStore.{IsStore}
 use Rattle.sim_store.proofs.Orders.{sum-counts}
-use Rattle.sim_store.proofs.Stores.{store-executed, whole-marked}
+use Rattle.sim_store.proofs.Stores.{logged-marked, store-executed}
 use Rattle.sim_store.proofs.handed_out.HandedOutStore.take_back.Goals as goal
 
 pub simulation_of-requires-clause-all : goal.simulation_of-requires-clause-all
@@ -20,7 +21,7 @@ open-requires-clause-log g c =
     let before = retained_of d (arc_value s.input) s.retained in
     let same : m ≡ with_marks before m.deposited = c.in_ok-simulation.ensures.same
     ∙ ap (λ (f : PhaseInput). with_marks (retained_of d f s.retained) m.deposited) c.in_ok-input.ensures.input in
-    subst (λ (h : Simulation). IsWhole h s.log) (sym same) (whole-marked c.self.invariant.4 before.phase m.deposited)
+    subst (λ (h : Simulation). IsLogged h s.log) (sym same) (logged-marked c.self.invariant.4 before.phase m.deposited)
 
 pub open-requires-clause-bounds : goal.open-requires-clause-bounds
 open-requires-clause-bounds g c =
@@ -35,4 +36,4 @@ open-requires-clause-bounds g c =
 
 pub returns-clause-complete : goal.returns-clause-complete
 returns-clause-complete g c =
-    subst (λ (w : WaveStore). IsComplete w.simulation) (sym c.open.ensures) c.in_ok-simulation.ensures.complete
+    subst (λ (r : Run). IsComplete r.store.simulation) (sym c.open.ensures) c.in_ok-simulation.ensures.complete

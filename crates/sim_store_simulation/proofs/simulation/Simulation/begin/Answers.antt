@@ -1,8 +1,9 @@
-use Rattle.std.proofs.Common.{rules, false, List, length, refl, ap, ◌∙◌, subst}
+use Rattle.std.proofs.Common.{◌≤◌, arith, sym, rules, false, List, [], length, refl, ap, ◌∙◌, subst}
 use Rattle.std.proofs.lemmas.List.{length-replicate}
 use Rattle.std.specs.List.{All}
 use Rattle.sim_flat_design.specs.Designs.{AreOwned}
 use Rattle.sim_flat_design.specs.Processes.{Process, IsProcess}
+use Rattle.sim_store_state.specs.declared.log.Past.{Past}
 use Rattle.sim_store_simulation.proofs.Counting.{totals-begin}
 use Rattle.sim_store_simulation.proofs.Going.{begins, first-records}
 use Rattle.sim_store_simulation.proofs.simulation.Simulation.begin.Goals as goal
@@ -33,6 +34,11 @@ pub returns-in-Ok-clause-log : goal.returns-in-Ok-clause-log
 returns-in-Ok-clause-log c =
     let start = c.in-Ok.ensures.start in
     rw (start.0, start.3) (record {
-      records = c.in-Ok.ensures.records;
+      given = [];
+      all = c.in-Ok.ensures.records;
+      records = ap (λ (p : Past). p.records) c.in-Ok.ensures.past;
+      changes = ap (λ (p : Past). p.changes) c.in-Ok.ensures.past;
+      begun = λ none. c.in-Ok.ensures.past;
+      slow = subst (λ (p : Past). p.delta ≤ p.records) (sym c.in-Ok.ensures.past) (omega arith);
       last = c.in-Ok.ensures.last;
     })

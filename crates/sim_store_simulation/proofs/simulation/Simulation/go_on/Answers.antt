@@ -9,7 +9,7 @@ use Rattle.sim_standard.specs.Records.{changes_from, records_to}
 use Rattle.sim_standard.specs.Cycle.{CycleAt}
 use Rattle.sim_store_state.specs.Sensitive.{has_event_in}
 use Rattle.sim_standard.specs.Processes.{process_at}
-use Rattle.sim_store_simulation.specs.Simulation.{ArePostponed, AreTotals, IsWhole, Simulation, IsExecuted, after, next_after, place_of, reached, those_in}
+use Rattle.sim_store_simulation.specs.Simulation.{ArePostponed, AreTotals, IsLogged, Simulation, IsExecuted, after, next_after, place_of, reached, those_in}
 use Rattle.sim_store_simulation.proofs.Counting.{totals-few, totals-go-on}
 use Rattle.sim_store_simulation.proofs.Going.{advanced-count, advanced-keeps, advanced-recorded, advanced-time, net-count, record-count}
 use Rattle.sim_store_simulation.proofs.Going.{next-time-is, none-marked-for, slow, state_of}
@@ -48,7 +48,7 @@ pub update-requires-clause-next : goal.update-requires-clause-next
 update-requires-clause-next c =
     let kept = held c.self.inside.design c.deref_mut-contents.ensures.value c.self.invariant in
     let view = shown c.self.inside.design c.deref_mut-contents.ensures.value c.self.view_is in
-    next-placed kept.state _ (c.in_ok-reserve.ensures.same.last ∙ (c.requires.log.last ∙ ap place_of (sym view))) c.args.time c.next_delta-contents.result
+    next-placed kept.state _ (c.in_ok-reserve.ensures.same.last ∙ (c.requires.last ∙ ap place_of (sym view))) c.args.time c.next_delta-contents.result
     c.next_delta-contents.ensures
 
 pub update-requires-clause-room : goal.update-requires-clause-room
@@ -138,7 +138,7 @@ returns-clause-ok c =
     )
 
 pub returns-clause-log : goal.returns-clause-log
-returns-clause-log c =
+returns-clause-log c logged =
     let m = c.deref_mut-contents.result.now in
     let kept = held c.self.inside.design c.deref_mut-contents.ensures.value c.self.invariant in
     let view = shown c.self.inside.design c.deref_mut-contents.ensures.value c.self.view_is in
@@ -148,7 +148,7 @@ returns-clause-log c =
     let next = next-time-is kept.state done c.args.time
     (subst (λ (g : Simulation). next_after g ≡ Some (CycleAt c.args.time)) (sym view) c.requires.next) in
     let cycles : m.cycles + 1 ≡ suc h.cycles = omega arith in
-    subst (λ (w : Contents). IsWhole (simulation_of s.design w) c.update.new.log) (sym c.begin_phase.ensures)
+    subst (λ (w : Contents). IsLogged (simulation_of s.design w) c.update.new.log) (sym c.begin_phase.ensures)
     (continued kept.state done c.args.time next c.next_delta-contents.result (m.cycles + 1) c.update.new.self _ c.next_delta-contents.ensures
-    c.update.ensures.state cycles c.args.log.now _ c.update.new.log (subst (λ (g : Simulation). IsWhole g c.args.log.now) (sym view) c.requires.log)
+    c.update.ensures.state cycles c.args.log.now _ c.update.new.log (subst (λ (g : Simulation). IsLogged g c.args.log.now) (sym view) logged)
     c.in_ok-reserve.ensures.same c.update.ensures.recorded)

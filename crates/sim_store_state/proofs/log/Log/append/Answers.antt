@@ -52,4 +52,4 @@ returns-clause-recorded c =
     c.len-start.result c.len.result c.append_changes.new.entries.items _ _ start appended
     (c.len.ensures ∙ c.append_changes.new.entries.ok.0) c.begin_record.ensures.times
     (c.begin_record.ensures.entries c.self.inside.entries.items changes appended start))
-    c.args.self.now _ refl refl refl
+    c.args.self.now _ refl (sym (ap (λ (l : Logged). l.past) c.self.view_is)) refl refl refl

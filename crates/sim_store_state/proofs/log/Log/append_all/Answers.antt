@@ -31,4 +31,4 @@ returns c =
     c.len-start.result c.len.result c.append_values.new.entries.items _ _ start appended
     (c.len.ensures ∙ c.append_values.new.entries.ok.0) c.begin_record.ensures.times
     (c.begin_record.ensures.entries c.self.inside.entries.items (enumerate_from 0 c.args.values.now) appended start))
-    c.args.self.now _ refl refl refl
+    c.args.self.now _ refl (sym (ap (λ (l : Logged). l.past) c.self.view_is)) refl refl refl
