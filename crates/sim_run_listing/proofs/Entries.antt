@@ -1,14 +1,15 @@
 -- The entries of a log, and the lines of the records that begin in them.
 use Rattle.std.proofs.Common.{◌≡◌, ℕ, zero, suc, ◌+◌, ◌<◌, ◌≤◌, List, [], ◌∷◌, ◌++◌, length, drop, refl, sym, ap, ◌∙◌, arith, subst}
 use Rattle.std.proofs.Common.{get_or, append_assoc, append-nil}
-use Rattle.std.proofs.lemmas.List.{drop_more}
+use Rattle.std.proofs.lemmas.List.{drop_all, drop_more}
 use Rattle.std.proofs.lemmas.List.Elements.{All-nil, All-head, All-tail, All-cons}
 use Rattle.std.specs.Prelude.{Option, All, flat_map}
 use Rattle.sim_logic.specs.declared.logic.Logic.{Logic}
 use Rattle.sim_standard.specs.Records.{IsNamed}
 use Rattle.sim_store_state.specs.declared.log.Entry.{Entry}
 use Rattle.sim_store_state.specs.declared.log.Entry.TheVariants as entry
-use Rattle.sim_store_state.specs.Log.{changes_before, changes_of, count_times, records_after, records_in, time_with}
+use Rattle.sim_store_state.specs.declared.log.Past.{Past}
+use Rattle.sim_store_state.specs.Log.{Logged, changes_before, changes_of, count_times, records_after, records_in, time_with}
 use Rattle.sim_run_listing.specs.declared.moment.Moment.{Moment}
 use Rattle.sim_run_listing.specs.Listing.{line_of, lines_of}
 use Rattle.sim_run_listing.specs.Moments.{moment_after, in_next_delta, start_of, at_next_time}
@@ -50,42 +51,48 @@ one_counted times at (entry.Time value net) es n h = omega arith
 one_counted times at entry.QuietDelta es n h = h
 one_counted times at entry.QuietTime es n h = omega arith
 
--- a delta number is at most the number of entries so far
-one_few : (times : List ℕ) (at : Moment) (e : Entry) (i : ℕ) → at.delta ≤ i → (moment_after times at e).delta ≤ i + 1
-one_few times at (entry.Change value net) i h = omega arith
-one_few times at (entry.Delta value net) i h = omega arith
-one_few times at (entry.Time value net) i h = omega arith
-one_few times at entry.QuietDelta i h = omega arith
-one_few times at entry.QuietTime i h = omega arith
+-- a delta number is at most the one before these entries and the number of entries so far
+one_few : (times : List ℕ) (at : Moment) (e : Entry) (d i : ℕ) → at.delta ≤ d + i → (moment_after times at e).delta ≤ d + (i + 1)
+one_few times at (entry.Change value net) d i h = omega arith
+one_few times at (entry.Delta value net) d i h = omega arith
+one_few times at (entry.Time value net) d i h = omega arith
+one_few times at entry.QuietDelta d i h = omega arith
+one_few times at entry.QuietTime d i h = omega arith
 
 -- ---- a walk through entries
 
 -- A writer, for which `held` was buffered, is given the lines of entries up to a place, where the moment is this one.
-pub record IsListed (old : Option (List ℕ)) (held : List ℕ) (new : Option (List ℕ)) (left : List ℕ) (names : List (List ℕ)) (times : List ℕ)
-    (entries : List Entry) (at : Moment) (i : ℕ) : Type 0 where
+pub record IsListed (old : Option (List ℕ)) (held : List ℕ) (new : Option (List ℕ)) (left : List ℕ) (names : List (List ℕ)) (log : Logged)
+    (times : List ℕ) (entries : List Entry) (at : Moment) (i : ℕ) : Type 0 where
   pub given : List ℕ
   pub gathered : Gathers old held new left given
-  pub lines : given ++ lines_from names times at (drop i entries) ≡ flat_map (lines_of names) (records_in times entries)
+  pub lines : given ++ lines_from names times at (drop i entries) ≡ flat_map (lines_of names) log.records
   pub counted : at.passed + count_times (drop i entries) ≡ length times
-  pub few : at.delta ≤ i
+  pub few : at.delta ≤ log.past.delta + i
 
 -- the entry at a place, and those after it
 rest_is : (entries : List Entry) (i : ℕ) (e d : Entry) → e ≡ get_or entries i d → i < length entries → drop i entries ≡ e ∷ drop (i + 1) entries
 rest_is entries i e d is lt = drop_more entries i d lt ∙ ap (λ (x : Entry). x ∷ drop (i + 1) entries) (sym is)
 
-pub at_first : (a : Option (List ℕ)) (h : List ℕ) (names : List (List ℕ)) (times : List ℕ) (entries : List Entry) (at : Moment)
-    → at ≡ record { time = 0; delta = 0; passed = 0 } → changes_before entries ≡ [] → count_times entries ≡ length times
-    → IsListed a h a h names times entries at 0
-at_first a h names times entries at is begins counted =
-    let first : Moment = record { time = 0; delta = 0; passed = 0 } in
-    let listed : IsListed a h a h names times entries first 0 = record {
+-- the moment of the last record before these entries
+abbrev pub moment_of : Past → Moment
+moment_of past = record { time = past.time; delta = past.delta; passed = 0 }
+
+-- no entry yet
+pub at_first : (a : Option (List ℕ)) (h : List ℕ) (names : List (List ℕ)) (log : Logged) (times : List ℕ) (entries : List Entry) (at : Moment)
+    → at ≡ moment_of log.past → records_in log.past times entries ≡ log.records → changes_before entries ≡ [] → count_times entries ≡ length times
+    → IsListed a h a h names log times entries at 0
+at_first a h names log times entries at is records begins counted =
+    let first = moment_of log.past in
+    let listed : IsListed a h a h names log times entries first 0 = record {
       given = [];
       gathered = gathers_nothing a h;
-      lines = ap (λ (cs : List (ℕ × Logic)). flat_map (line_of (start_of first) names) cs ++ flat_map (lines_of names) (records_in times entries)) begins;
+      lines = ap (λ (cs : List (ℕ × Logic)). flat_map (line_of (start_of first) names) cs ++ flat_map (lines_of names) (records_in log.past times entries))
+          begins ∙ ap (flat_map (lines_of names)) records;
       counted = omega (arith, counted);
       few = omega arith;
     } in
-    subst (λ (m : Moment). IsListed a h a h names times entries m 0) (sym is) listed
+    subst (λ (m : Moment). IsListed a h a h names log times entries m 0) (sym is) listed
 
 -- what was given, then the lines of an entry, then the others
 one_given : (names : List (List ℕ)) (times given : List ℕ) (entries : List Entry) (at : Moment) (i : ℕ) (e d : Entry) (all : List ℕ)
@@ -96,40 +103,49 @@ one_given names times given entries at i e d all is lt lines =
     one_first names times at e (drop (i + 1) entries))) ∙ lines
 
 -- one more entry
-pub one_listed : (a b c : Option (List ℕ)) (h m k : List ℕ) (names : List (List ℕ)) (times : List ℕ) (entries : List Entry) (at next : Moment) (i : ℕ)
-    (e d : Entry) (head : List ℕ) → e ≡ get_or entries i d → i < length entries → next ≡ moment_after times at e → head ≡ start_of next
-    → IsListed a h b m names times entries at i → Gathers b m c k (flat_map (line_of head names) (changes_of (e ∷ [])))
-    → IsListed a h c k names times entries next (i + 1)
-one_listed a b c h m k names times entries at next i e d head is lt moment start listed more =
+pub one_listed : (a b c : Option (List ℕ)) (h m k : List ℕ) (names : List (List ℕ)) (log : Logged) (times : List ℕ) (entries : List Entry)
+    (at next : Moment) (i : ℕ) (e d : Entry) (head : List ℕ) → e ≡ get_or entries i d → i < length entries → next ≡ moment_after times at e
+    → head ≡ start_of next → IsListed a h b m names log times entries at i
+    → Gathers b m c k (flat_map (line_of head names) (changes_of (e ∷ [])))
+    → IsListed a h c k names log times entries next (i + 1)
+one_listed a b c h m k names log times entries at next i e d head is lt moment start listed more =
     let after = moment_after times at e in
-    let all = flat_map (lines_of names) (records_in times entries) in
+    let all = flat_map (lines_of names) log.records in
     let put : Gathers b m c k (lines_at names after e) =
     subst (λ (l : List ℕ). Gathers b m c k (flat_map (line_of l names) (changes_of (e ∷ [])))) (start ∙ ap start_of moment) more in
     let rest = lines_from names times after (drop (i + 1) entries) in
     let counted = ap (λ (es : List Entry). at.passed + count_times es) (sym (rest_is entries i e d is lt)) ∙ listed.counted in
-    let made : IsListed a h c k names times entries after (i + 1) = record {
+    let made : IsListed a h c k names log times entries after (i + 1) = record {
       given = listed.given ++ lines_at names after e;
       gathered = gathers_then listed.gathered put;
       lines = append_assoc listed.given (lines_at names after e) rest ∙ one_given names times listed.given entries at i e d all is lt listed.lines;
       counted = one_counted times at e (drop (i + 1) entries) (length times) counted;
-      few = one_few times at e i listed.few;
+      few = one_few times at e log.past.delta i listed.few;
     } in
-    subst (λ (n : Moment). IsListed a h c k names times entries n (i + 1)) (sym moment) made
+    subst (λ (n : Moment). IsListed a h c k names log times entries n (i + 1)) (sym moment) made
 
 -- the lines of an entry fail
-pub one_fails : (a b c : Option (List ℕ)) (h m : List ℕ) (names : List (List ℕ)) (times : List ℕ) (entries : List Entry) (at next : Moment) (i : ℕ)
-    (e d : Entry) (head : List ℕ) → e ≡ get_or entries i d → i < length entries → next ≡ moment_after times at e → head ≡ start_of next
-    → IsListed a h b m names times entries at i → AppendsPart b c (m ++ flat_map (line_of head names) (changes_of (e ∷ [])))
-    → AppendsPart a c (h ++ flat_map (lines_of names) (records_in times entries))
-one_fails a b c h m names times entries at next i e d head is lt moment start listed part =
+pub one_fails : (a b c : Option (List ℕ)) (h m : List ℕ) (names : List (List ℕ)) (log : Logged) (times : List ℕ) (entries : List Entry)
+    (at next : Moment) (i : ℕ) (e d : Entry) (head : List ℕ) → e ≡ get_or entries i d → i < length entries → next ≡ moment_after times at e
+    → head ≡ start_of next → IsListed a h b m names log times entries at i
+    → AppendsPart b c (m ++ flat_map (line_of head names) (changes_of (e ∷ [])))
+    → AppendsPart a c (h ++ flat_map (lines_of names) log.records)
+one_fails a b c h m names log times entries at next i e d head is lt moment start listed part =
     let after = moment_after times at e in
-    let all = flat_map (lines_of names) (records_in times entries) in
+    let all = flat_map (lines_of names) log.records in
     let failed : AppendsPart b c (m ++ lines_at names after e) =
     subst (λ (l : List ℕ). AppendsPart b c (m ++ flat_map (line_of l names) (changes_of (e ∷ [])))) (start ∙ ap start_of moment) part in
     let rest = lines_from names times after (drop (i + 1) entries) in
     subst (λ (l : List ℕ). AppendsPart a c (h ++ l)) (one_given names times listed.given entries at i e d all is lt listed.lines)
     (stops_then a b c h m listed.given (lines_at names after e ++ rest) listed.gathered
     (stops_within b c m (lines_at names after e) rest failed))
+
+-- all entries
+pub all_listed : (a b : Option (List ℕ)) (h m : List ℕ) (names : List (List ℕ)) (log : Logged) (times : List ℕ) (entries : List Entry) (at : Moment) (i : ℕ)
+    → length entries ≤ i → IsListed a h b m names log times entries at i → Gathers a h b m (flat_map (lines_of names) log.records)
+all_listed a b h m names log times entries at i end listed =
+    let lines = ap (λ (es : List Entry). listed.given ++ lines_from names times at es) (sym (drop_all i entries end)) ∙ listed.lines in
+    subst (Gathers a h b m) (sym (append-nil listed.given) ∙ lines) listed.gathered
 
 -- ---- the nets of entries have names
 
@@ -164,10 +180,11 @@ module _ (nets : ℕ) where
       (All-tail (IsNamed nets) _ (records_after times (suc n) now 0 es) records)
 
   -- all changes, of entries of which the first begins a record
-  pub records_named : (times : List ℕ) (es : List Entry) → changes_before es ≡ [] → All (IsNamed nets) (records_in times es)
-      → All HasName (changes_of es)
-  records_named times es begins records =
-      all_named times 0 0 0 es (subst (λ (cs : List (ℕ × Logic)). All HasName cs) (sym begins) (All-nil HasName)) records
+  pub records_named : (log : Logged) (times : List ℕ) (es : List Entry) → records_in log.past times es ≡ log.records → changes_before es ≡ []
+      → All (IsNamed nets) log.records → All HasName (changes_of es)
+  records_named log times es is begins records =
+      all_named times 0 log.past.time log.past.delta es (subst (λ (cs : List (ℕ × Logic)). All HasName cs) (sym begins) (All-nil HasName))
+      (subst (All (IsNamed nets)) (sym is) records)
 
   -- the change of the first entry
   first_named : (e : Entry) (es : List Entry) → All HasName (changes_of (e ∷ es)) → All HasName (changes_of (e ∷ []))

@@ -1,5 +1,5 @@
 -- Short names, which are copied as a whole.
--- Implementation only: the listing is defined without this file.
+-- The listing is defined without this file. Of its definitions public clauses name `AreNames` alone.
 use Rattle.std.specs.Prelude.{ℕ, nat_lt, ◌≡◌, ◌+◌, List, [], ◌++◌, Option, None, Some, if◌then◌else◌, length, take, slice_index_or, IfSome}
 use Rattle.sim_logic.specs.declared.logic.Logic.{Logic}
 use Rattle.sim_run_listing.specs.Listing.{pieces_of}

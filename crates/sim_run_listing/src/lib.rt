@@ -14,5 +14,6 @@ mod short_name;
 pub use block::write_whole;
 pub use error::WriteError;
 pub use listing::write_listing;
-pub use log::write_log;
+pub use log::{Totals, write_last_records, write_log, write_records};
 pub use named::Named;
+pub use short_name::KnownNames;

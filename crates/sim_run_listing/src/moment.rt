@@ -4,7 +4,7 @@ ghost use Rattle.sim_store_state.specs.Log.{count_times};
 ghost use Rattle.sim_run_listing.specs.Moments.{moment_after, in_next_delta, start_of, at_next_time};
 
 use crate::head::Head;
-use sim_store_state::Entry;
+use sim_store_state::{Entry, Past};
 
 /// The time and the delta number of a record, and how many times have begun up to it.
 #[derive(Drop)]
@@ -15,15 +15,15 @@ pub struct Moment {
 }
 
 impl Moment {
-    /// The moment before the first record. The start of a line is set to it.
-    pub fn new(head: &mut Head) -> Moment
-        ensures value { result ≡ record { time = 0; delta = 0; passed = 0 } }
+    /// The moment of the last record that was given away. The start of a line is set to it.
+    pub fn new(head: &mut Head, past: Past) -> Moment
+        ensures value { result ≡ record { time = past.time; delta = past.delta; passed = 0 } }
         ensures head { head.new.text ≡ start_of result }
     {
-        head.set(0, 0);
+        head.set(past.time, past.delta);
         Moment {
-            time: 0,
-            delta: 0,
+            time: past.time,
+            delta: past.delta,
             passed: 0,
         }
     }

@@ -110,11 +110,50 @@ fn short_names<N: Named>(alloc: Global, names: &[N]) -> Result<Vec<ShortName>, A
 }
 
 /// The short ones of these names; none of them is known if memory is refused.
-pub fn known_names<N: Named>(alloc: Global, names: &[N]) -> Vec<ShortName>
+fn known_names<N: Named>(alloc: Global, names: &[N]) -> Vec<ShortName>
     ensures { AreNames (map N.name_of names.now) result.items }
 {
     match short_names(alloc, names) {
         Ok(known) => known,
         Err(_no_memory) => Vec::new(alloc),
+    }
+}
+
+/// The short ones of a run's names, by the numbers of the nets.
+pub struct KnownNames {
+    names: Vec<ShortName>,
+}
+
+/// Written by hand so that code which drops it needs no proof about its contents.
+impl Drop for KnownNames {
+    fn drop(self) {
+        let KnownNames { names } = self;
+        drop(names);
+    }
+}
+
+impl Model for KnownNames {
+    ghost use Rattle.std.specs.Prelude.{ℕ, List, Option};
+
+    ghost Value = { List (Option (List ℕ)) };
+
+    ghost view = { λ s. s.names.items };
+}
+
+impl KnownNames {
+    /// Those of these names. None of them is known if memory is refused.
+    pub fn of<N: Named>(alloc: Global, names: &[N]) -> KnownNames
+        ensures { AreNames (map N.name_of names.now) result }
+    {
+        KnownNames {
+            names: known_names(alloc, names),
+        }
+    }
+
+    /// The names, each at the number of its net.
+    pub(crate) fn as_slice(&self) -> &[ShortName]
+        ensures { result.now ≡ self.now }
+    {
+        self.names.as_slice()
     }
 }

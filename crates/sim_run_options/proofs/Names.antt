@@ -12,7 +12,7 @@ use Rattle.clap.specs.Walk.{nothing_held, one_of, option, settled, walk, walk_fr
 use Rattle.clap.specs.declared.error.kind.ErrorKind.{ErrorKind}
 use Rattle.clap.specs.declared.error.kind.ErrorKind.TheVariants as kinds
 use Rattle.clap.proofs.OnLiterals.{clap_on_literals}
-use Rattle.sim_run_options.specs.Asks.{Asks, AsksFor, Explains, IsDefault, IsUsual, limits_in, program}
+use Rattle.sim_run_options.specs.Asks.{Asks, AsksFor, Explains, IsDefault, IsUsual, limits_in, program, streams_in}
 use Rattle.sim_run_options.specs.Limits.{usual_cycles_of}
 use Rattle.sim_run_options.specs.declared.limits.Limits.TheVariants.{Standard}
 use Rattle.sim_run_options.specs.declared.options.Options.{Options}
@@ -109,6 +109,10 @@ limits_found : (name : Text) → limits_in (finished rules (after_name name).hel
 unfolding clap_on_literals
 limits_found name = refl
 
+streams_found : (name : Text) → streams_in (finished rules (after_name name).held) ≡ false
+unfolding clap_on_literals
+streams_found name = refl
+
 -- the limit of cycles that rows give
 abbrev limit_in : List Row → ℕ
 limit_in rs = unwrap_or (number_in (codes "limit") rs) (usual_cycles_of (limits_in rs))
@@ -140,10 +144,13 @@ defaults words name options is e asks =
 
 usual : (words : List Text) (name : Text) (request : Request) → words ≡ codes "--top" ∷ name ∷ [] → starts_with_minus name ≡ false
     → AsksFor words request → IsUsual name request
-usual words name request is e asks = record {
-  options = defaults words name request.options is e asks.options;
-  limits = asks.limits ∙ (ap limits_in (ap (matches_of program) is ∙ rows name e) ∙ limits_found name);
-}
+usual words name request is e asks =
+    let same = ap (matches_of program) is ∙ rows name e in
+    record {
+      options = defaults words name request.options is e asks.options;
+      limits = asks.limits ∙ (ap limits_in same ∙ limits_found name);
+      streams = asks.streams ∙ (ap streams_in same ∙ streams_found name);
+    }
 
 no_kind : (words : List Text) (name : Text) (k : ErrorKind) → words ≡ codes "--top" ∷ name ∷ [] → starts_with_minus name ≡ false
     → IsAmong k (fault_of program words) → ⊥

@@ -71,16 +71,16 @@ no_items (x ∷ xs) e =
 rules_same : (c : Command) → app_of c ≡ program → map rule_of (args_of c) ≡ program.top.rules
 rules_same c e = ap (λ (a : App). a.top.rules) e
 
-five : (c : Command) → app_of c ≡ program → length (args_of c) ≡ 5
-five c e = sym (length-map (args_of c) rule_of) ∙ ap length (rules_same c e)
+six : (c : Command) → app_of c ≡ program → length (args_of c) ≡ 6
+six c e = sym (length-map (args_of c) rule_of) ∙ ap length (rules_same c e)
 
 -- the rule of the argument at an index
 abbrev at : ℕ → Rule
 at k = slice_index_or program.top.rules k top_rule
 
-rule_at : (c : Command) → app_of c ≡ program → (k : ℕ) (d : Arg) → k < 5 → rule_of (slice_index_or (args_of c) k d) ≡ at k
+rule_at : (c : Command) → app_of c ≡ program → (k : ℕ) (d : Arg) → k < 6 → rule_of (slice_index_or (args_of c) k d) ≡ at k
 rule_at c e k d lt =
-    sym (get_or-map rule_of (args_of c) k d top_rule (subst (λ n. k < n) (sym (five c e)) lt)) ∙ ap (λ rs. slice_index_or rs k top_rule) (rules_same c e)
+    sym (get_or-map rule_of (args_of c) k d top_rule (subst (λ n. k < n) (sym (six c e)) lt)) ∙ ap (λ rs. slice_index_or rs k top_rule) (rules_same c e)
 
 all_simple : (k : ℕ) → (at k).is_simple ≡ true
 all_simple zero = refl
@@ -88,7 +88,8 @@ all_simple (suc zero) = refl
 all_simple (suc (suc zero)) = refl
 all_simple (suc (suc (suc zero))) = refl
 all_simple (suc (suc (suc (suc zero)))) = refl
-all_simple (suc (suc (suc (suc (suc k))))) = refl
+all_simple (suc (suc (suc (suc (suc zero))))) = refl
+all_simple (suc (suc (suc (suc (suc (suc k)))))) = refl
 
 all_free : (k : ℕ) → (at k).is_free ≡ true
 all_free zero = refl
@@ -96,7 +97,8 @@ all_free (suc zero) = refl
 all_free (suc (suc zero)) = refl
 all_free (suc (suc (suc zero))) = refl
 all_free (suc (suc (suc (suc zero)))) = refl
-all_free (suc (suc (suc (suc (suc k))))) = refl
+all_free (suc (suc (suc (suc (suc zero))))) = refl
+all_free (suc (suc (suc (suc (suc (suc k)))))) = refl
 
 abbrev letter : Text → ℕ
 letter t = slice_index_or t 0 0
@@ -105,15 +107,16 @@ letter t = slice_index_or t 0 0
 abbrev place : Text → ℕ
 place t =
     let x = slice_index_or t 3 0 in
-    if x == 0 then 0 else (if x == 112 then 1 else (if x == 105 then 2 else (if x == 107 then 3 else 4)))
+    if x == 0 then 0 else (if x == 112 then 1 else (if x == 105 then 2 else (if x == 107 then 3 else (if x == 103 then 4 else 5))))
 
-placed : (k : ℕ) → k < 5 → place (at k).id ≡ k
+placed : (k : ℕ) → k < 6 → place (at k).id ≡ k
 placed zero lt = refl
 placed (suc zero) lt = refl
 placed (suc (suc zero)) lt = refl
 placed (suc (suc (suc zero))) lt = refl
 placed (suc (suc (suc (suc zero)))) lt = refl
-placed (suc (suc (suc (suc (suc k))))) lt = absurd (omega arith)
+placed (suc (suc (suc (suc (suc zero))))) lt = refl
+placed (suc (suc (suc (suc (suc (suc k)))))) lt = absurd (omega arith)
 
 -- what holds for each argument of the command
 record Fits (c : Command) (k : ℕ) (d : Arg) : Type 0 where
@@ -137,14 +140,14 @@ simple_of a e =
 free_of : (a : Arg) → is_free_arg a ≡ true → (a.exclusive ≡ false) × (a.conflicts.items ≡ [])
 free_of a e = (not_true _ (and_left _ _ e), no_items _ (and_left _ _ (and_right _ _ e)))
 
-fits : (c : Command) → app_of c ≡ program → (k : ℕ) (d : Arg) → k < 5 → Fits c k d
+fits : (c : Command) → app_of c ≡ program → (k : ℕ) (d : Arg) → k < 6 → Fits c k d
 fits c e k d lt =
     let rule = rule_at c e k d lt in
     let simple = simple_of (slice_index_or (args_of c) k d) (ap (λ (r : Rule). r.is_simple) rule ∙ all_simple k) in
     let free = free_of (slice_index_or (args_of c) k d) (ap (λ (r : Rule). r.is_free) rule ∙ all_free k) in
     record {
       rule = rule;
-      inside = subst (λ n. k < n) (sym (five c e)) lt;
+      inside = subst (λ n. k < n) (sym (six c e)) lt;
       plain = (free.0, free.1, simple.0, simple.2);
       delimiter = simple.3;
       conditions = simple.1;
@@ -152,7 +155,7 @@ fits c e k d lt =
 
 is_plain : (c : Command) → app_of c ≡ program → IsPlain c
 is_plain c e = (
-  λ k d lt. (fits c e k d (subst (λ n. k < n) (five c e) lt)).plain,
+  λ k d lt. (fits c e k d (subst (λ n. k < n) (six c e) lt)).plain,
   no_items _ (and_left _ _ (ap (λ (a : App). a.top.is_plain) e)),
 )
 
@@ -162,15 +165,15 @@ no_globals c e = not_true _ (and_left _ _ (and_right _ _ (and_right _ _ (ap (λ 
 negates_nothing : (c : Command) → app_of c ≡ program → (out-Command c).subcommand_negates_reqs ≡ false
 negates_nothing c e = ap (λ (a : App). a.top.subcommand_negates_reqs) e
 
-an_arg : (xs : List Arg) → length xs ≡ 5 → Arg
+an_arg : (xs : List Arg) → length xs ≡ 6 → Arg
 an_arg [] e = absurd (omega arith)
 an_arg (x ∷ xs) e = x
 
 -- no other argument has the id
-only : (c : Command) → app_of c ≡ program → (k : ℕ) (d : Arg) → k < 5 → (j : ℕ) (x : Arg) → j < length (args_of c)
+only : (c : Command) → app_of c ≡ program → (k : ℕ) (d : Arg) → k < 6 → (j : ℕ) (x : Arg) → j < length (args_of c)
     → bytes_eq (slice_index_or (args_of c) j x).id.now (slice_index_or (args_of c) k d).id.now ≡ true → j ≡ k
 only c e k d lt j x inside same =
-    let below : j < 5 = subst (λ n. j < n) (five c e) inside in
+    let below : j < 6 = subst (λ n. j < n) (six c e) inside in
     let mine = ap (λ (r : Rule). r.id) (rule_at c e k d lt) in
     let its = ap (λ (r : Rule). r.id) (rule_at c e j x below) in
     let equal : (at j).id ≡ (at k).id = sym its ∙ ((bytes_eq-Decides _ _).0 same ∙ mine) in
@@ -338,13 +341,13 @@ not_auto t x e h v (inl is) = h (sym e ∙ ap letter is)
 not_auto t x e h v (inr is) = v (sym e ∙ ap letter is)
 
 -- if an option has an entry, it has a number
-number_found : (c : Command) (m : ArgMatches) → app_of c ≡ program → IsParsedFrom c m → (k : ℕ) (q : ValueParser) (x bits : ℕ) → k < 5
+number_found : (c : Command) (m : ArgMatches) → app_of c ≡ program → IsParsedFrom c m → (k : ℕ) (q : ValueParser) (x bits : ℕ) → k < 6
     → (at k).parser ≡ Some q → (at k).action ≡ Some Set → (at k).range ≡ None → letter (at k).id ≡ x → 0 < x → x ≢ 104 → x ≢ 118 → ReadsBelow q bits
     → is_some (matched_of (found_of m) (at k).id) ≡ true → IsNumber (found_of m) (at k).id bits
 number_found c m e p k q x bits lt parser_is set range first named help version reads there = subst (λ t. IsNumber (found_of m) t bits) id_is found
   where
     d : Arg
-    d = an_arg (args_of c) (five c e)
+    d = an_arg (args_of c) (six c e)
 
     a : Arg
     a = slice_index_or (args_of c) k d
@@ -396,7 +399,7 @@ number_found c m e p k q x bits lt parser_is set range first named help version 
             at_entry y.0 g some y.1 ((bytes_eq-Decides _ _).0 y.2) y.3
 
 -- an option with a default has an entry, so it has a number
-number_there : (c : Command) (m : ArgMatches) → app_of c ≡ program → IsParsedFrom c m → (k : ℕ) (q : ValueParser) (x bits : ℕ) → k < 5
+number_there : (c : Command) (m : ArgMatches) → app_of c ≡ program → IsParsedFrom c m → (k : ℕ) (q : ValueParser) (x bits : ℕ) → k < 6
     → (at k).parser ≡ Some q → (at k).action ≡ Some Set → (at k).range ≡ None → 0 < length (at k).defaults
     → letter (at k).id ≡ x → 0 < x → x ≢ 104 → x ≢ 118 → ReadsBelow q bits → IsNumber (found_of m) (at k).id bits
 number_there c m e p k q x bits lt parser_is set range defaults first named help version reads =
@@ -404,7 +407,7 @@ number_there c m e p k q x bits lt parser_is set range defaults first named help
     (subst (λ t. is_some (matched_of (found_of m) t) ≡ true) (ap (λ (r : Rule). r.id) fit.rule) is_found)
   where
     d : Arg
-    d = an_arg (args_of c) (five c e)
+    d = an_arg (args_of c) (six c e)
 
     a : Arg
     a = slice_index_or (args_of c) k d
@@ -437,8 +440,8 @@ workers_there c m e p =
 -- the top is required, so it has a value
 pub top_there : (c : Command) (m : ArgMatches) → app_of c ≡ program → IsParsedFrom c m → is_some (first_value (found_of m) (codes "top")) ≡ true
 top_there c m e p =
-    let lt : 0 < 5 = omega arith in
-    let d = an_arg (args_of c) (five c e) in
+    let lt : 0 < 6 = omega arith in
+    let d = an_arg (args_of c) (six c e) in
     let fit = fits c e 0 d lt in
     let id_is = ap (λ (r : Rule). r.id) fit.rule in
     let least : 1 ≤ least_values (slice_index_or (args_of c) 0 d) =

@@ -1,5 +1,5 @@
 -- What the words of the command line ask for, by `clap`'s model of its parser.
-use Rattle.std.specs.Prelude.{◌≡◌, ◌≢◌, ℕ, List, [], ◌∷◌, Option, Some, codes, if◌then◌else◌, option_map, unwrap_or, true, false}
+use Rattle.std.specs.Prelude.{◌≡◌, ◌≢◌, ℕ, Bool, List, [], ◌∷◌, Option, Some, codes, if◌then◌else◌, option_map, unwrap_or, true, false}
 use Rattle.std.specs.Option.{option_map_or}
 use Rattle.std.specs.Str.{bytes_eq}
 use Rattle.std.specs.String.{string_bytes}
@@ -50,11 +50,15 @@ workers_rule = record (valued (codes "workers")) { parser = Some (parser.Unsigne
 abbrev pub large_rule : Rule
 large_rule = record (new_rule (codes "large")) { long = Some (codes "large"); action = Some SetTrue }
 
--- the five options; `clap` adds `--help` and `-h`, and the words do not include the program's name
+-- `--stream`, a flag
+abbrev pub stream_rule : Rule
+stream_rule = record (new_rule (codes "stream")) { long = Some (codes "stream"); action = Some SetTrue }
+
+-- the six options; `clap` adds `--help` and `-h`, and the words do not include the program's name
 abbrev pub program : App
 program =
-    with_rule (with_rule (with_rule (with_rule (with_rule (on_top (λ s. record s { no_binary_name = true }) (new_app (codes "vsim")))
-    top_rule) stop_rule) limit_rule) workers_rule) large_rule
+    with_rule (with_rule (with_rule (with_rule (with_rule (with_rule (on_top (λ s. record s { no_binary_name = true }) (new_app (codes "vsim")))
+    top_rule) stop_rule) limit_rule) workers_rule) large_rule) stream_rule
 
 -- ---- words
 
@@ -62,9 +66,13 @@ program =
 abbrev pub number_of : Text → List Text → Option ℕ
 number_of id words = option_map (λ t. digits_value 10 (without_leading_plus t)) (one_of id (matches_of program words))
 
+-- whether a flag is set, by the text that a parse gives it
+abbrev pub is_set : Option Text → Bool
+is_set flag = option_map_or (λ t. bytes_eq t (codes "true")) flag false
+
 -- the limits by the text that a parse gives the flag
 abbrev pub limits_by : Option Text → Limits
-limits_by flag = if option_map_or (λ t. bytes_eq t (codes "true")) flag false then Large else Standard
+limits_by flag = if is_set flag then Large else Standard
 
 -- the limits of what a parse found
 abbrev pub limits_in : List Row → Limits
@@ -73,6 +81,14 @@ limits_in rows = limits_by (first_of (codes "large") rows)
 -- the limits that the words ask for
 abbrev pub limits_of : List Text → Limits
 limits_of words = limits_in (matches_of program words)
+
+-- whether what a parse found asks for lines to be written while the run goes on
+abbrev pub streams_in : List Row → Bool
+streams_in rows = is_set (first_of (codes "stream") rows)
+
+-- whether the words ask for lines to be written while the run goes on
+abbrev pub streams : List Text → Bool
+streams words = streams_in (matches_of program words)
 
 -- The words ask for a run with these options.
 pub record Asks (words : List Text) (options : Options) : Type 0 where
@@ -86,6 +102,7 @@ pub record Asks (words : List Text) (options : Options) : Type 0 where
 pub record AsksFor (words : List Text) (request : Request) : Type 0 where
   pub options : Asks words request.options
   pub limits : request.limits ≡ limits_of words
+  pub streams : request.streams ≡ streams words
 
 -- The options are this top and the defaults.
 pub record IsDefault (name : Text) (options : Options) : Type 0 where
@@ -94,10 +111,11 @@ pub record IsDefault (name : Text) (options : Options) : Type 0 where
   pub limit : options.limit ≡ 10000
   pub workers : options.workers ≡ 1
 
--- So they are, and so are the limits.
+-- So they are, so are the limits, and lines are not written while the run goes on.
 pub record IsUsual (name : Text) (request : Request) : Type 0 where
   pub options : IsDefault name request.options
   pub limits : request.limits ≡ Standard
+  pub streams : request.streams ≡ false
 
 -- the fault that the program makes of a kind of error
 abbrev pub Tells : ErrorKind → CliFault → Type 0

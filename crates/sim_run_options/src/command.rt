@@ -2,7 +2,7 @@
 ghost use Rattle.std.specs.Prelude.{◌≡◌, ◌∷◌, [], IfOk, Some, false};
 ghost use Rattle.clap.specs.Simple.{with_rule};
 ghost use Rattle.clap.specs.Words.{rule_of, app_of};
-ghost use Rattle.sim_run_options.specs.Asks.{top_rule, stop_rule, large_rule, limit_rule, workers_rule, valued, program};
+ghost use Rattle.sim_run_options.specs.Asks.{top_rule, stop_rule, large_rule, limit_rule, stream_rule, workers_rule, valued, program};
 
 use clap::builder::ValueParser;
 use clap::{Arg, ArgAction, Command, value_parser};
@@ -28,6 +28,8 @@ Listing:
   u1.u2.s. VALUE is one of U X 0 1 Z W L H and -. The last line is
       done CYCLES EVENTS
   with the number of simulation cycles and of changes after the initialization.
+  With --stream lines are written while the run goes on, so a run that is cut
+  short (status 3 or 4) has written the lines up to there.
 
 Status:
   0  the run has finished, or help was requested
@@ -134,6 +136,17 @@ fn large_argument<'a>(alloc: Global) -> Arg<'a>
         .help("Larger limits of the text, the design and the cycles")
 }
 
+/// `--stream`.
+fn stream_argument<'a>(alloc: Global) -> Arg<'a>
+    ensures rule { rule_of result ≡ stream_rule }
+    ensures local { result.global ≡ false }
+{
+    Arg::new(alloc, "stream")
+        .long("stream")
+        .action(ArgAction::SetTrue)
+        .help("Write lines while the run goes on, and keep none")
+}
+
 /// A command with the options that take a number.
 fn with_numbers<'a>(alloc: Global, command: Command<'a>) -> Result<Command<'a>, AllocError>
     ensures { IfOk result (λ c. app_of c ≡ with_rule (with_rule (with_rule (app_of command.entry) stop_rule) limit_rule) workers_rule) }
@@ -142,6 +155,15 @@ fn with_numbers<'a>(alloc: Global, command: Command<'a>) -> Result<Command<'a>, 
         .arg(stop_argument(alloc))?
         .arg(limit_argument(alloc))?
         .arg(workers_argument(alloc))
+}
+
+/// A command with the flags.
+fn with_flags<'a>(alloc: Global, command: Command<'a>) -> Result<Command<'a>, AllocError>
+    ensures { IfOk result (λ c. app_of c ≡ with_rule (with_rule (app_of command.entry) large_rule) stream_rule) }
+{
+    command
+        .arg(large_argument(alloc))?
+        .arg(stream_argument(alloc))
 }
 
 /// The command line of the program, whose words do not include its name.
@@ -153,5 +175,6 @@ pub(crate) fn command_line<'a>(alloc: Global) -> Result<Command<'a>, AllocError>
         .after_help(MORE)
         .no_binary_name(true)
         .arg(top_argument(alloc))?;
-    with_numbers(alloc, command)?.arg(large_argument(alloc))
+    let numbered = with_numbers(alloc, command)?;
+    with_flags(alloc, numbered)
 }

@@ -1,6 +1,6 @@
 //! Words read as options.
 ghost use Rattle.std.specs.Prelude.{◌≡◌, ◌∷◌, [], false, codes, MatchResult, map, string_bytes};
-ghost use Rattle.sim_run_options.specs.Asks.{Asks, AsksFor, Explains, IsDefault, IsUsual, limits_in};
+ghost use Rattle.sim_run_options.specs.Asks.{Asks, AsksFor, Explains, IsDefault, IsUsual, limits_in, streams_in};
 ghost use Rattle.std.specs.Str.Parse.{starts_with_minus};
 ghost use Rattle.clap.specs.Matches.{found_of};
 ghost use Rattle.clap.specs.Walk.{Text, rows_of};
@@ -19,6 +19,8 @@ pub struct Request {
     pub options: Options,
     /// How large it may be.
     pub limits: Limits,
+    /// Whether lines are written while the run goes on.
+    pub streams: bool,
 }
 
 /// The limits that the words ask for: `clap` gives a flag that is among them the text `true`.
@@ -31,8 +33,18 @@ fn limits_of(matches: &ArgMatches<'_>) -> Limits
     }
 }
 
+/// Whether the words ask for lines to be written while the run goes on.
+fn streams(matches: &ArgMatches<'_>) -> bool
+    ensures { result ≡ streams_in (rows_of (found_of matches.now)) }
+{
+    match matches.get_str("stream") {
+        Some(text) if text == "true" => true,
+        _ => false,
+    }
+}
+
 /// Reads the words of a command line, without the program's name:
-/// `--top NAME [--stop FS] [--limit N] [--workers N] [--large]` in any order, or `--help`.
+/// `--top NAME [--stop FS] [--limit N] [--workers N] [--large] [--stream]` in any order, or `--help`.
 pub fn read_request(alloc: Global, words: Vec<String>) -> Result<Request, CliFault>
     ensures read { MatchResult result (AsksFor (map string_bytes words.items)) (Explains (map string_bytes words.items)) }
     ensures alone { (name : Text) → map string_bytes words.items ≡ codes "--top" ∷ name ∷ [] → starts_with_minus name ≡ false
@@ -57,7 +69,11 @@ pub fn read_request(alloc: Global, words: Vec<String>) -> Result<Request, CliFau
             .unwrap_or(limits.usual_cycles()),
         workers: matches.get_one::<usize>("workers").unwrap(),
     };
-    Ok(Request { options, limits })
+    Ok(Request {
+        options,
+        limits,
+        streams: streams(&matches),
+    })
 }
 
 /// The options of the run that the words ask for, as `read_request` reads them.

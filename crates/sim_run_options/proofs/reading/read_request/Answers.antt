@@ -8,7 +8,7 @@ use Rattle.clap.specs.Matches.{found_of}
 use Rattle.clap.specs.Walk.{Text, first_of}
 use Rattle.clap.proofs.CallerLemmas.{some_of_text}
 use Rattle.clap.proofs.WalkLemmas.{first_value-rows}
-use Rattle.sim_run_options.specs.Asks.{Asks, AsksFor, Explains, limits_in, limits_of}
+use Rattle.sim_run_options.specs.Asks.{Asks, AsksFor, Explains, limits_in, limits_of, streams, streams_in}
 use Rattle.sim_run_options.specs.Limits.{usual_cycles_of}
 use Rattle.sim_run_options.specs.declared.options.Options.{Options}
 use Rattle.sim_run_options.specs.declared.reading.Request.{Request}
@@ -74,8 +74,9 @@ returns c =
       limit = ap₂ unwrap_or limit_is (sym (c.usual_cycles.ensures ∙ ap usual_cycles_of limits_are)) ∙ sym c.unwrap_or.ensures;
       workers = number_known f (codes "workers") 64 words workers rows ∙ (sym workers_read ∙ search rules);
     } in
-    let request : Request = record { options = options; limits = c.limits_of-limits.result } in
-    let asks_for : AsksFor words request = record { options = asks; limits = limits_are } in
+    let streams_are : c.streams.result ≡ streams words = c.streams.ensures ∙ ap streams_in rows in
+    let request : Request = record { options = options; limits = c.limits_of-limits.result; streams = c.streams.result } in
+    let asks_for : AsksFor words request = record { options = asks; limits = limits_are; streams = streams_are } in
     record {
       read = asks_for;
       alone = λ name is e. answered words name (Ok request) asks_for is e;
