@@ -48,7 +48,7 @@ module _ (design : Design) (options : Options) (run : WaveStore) (of : IsRunOf d
       (subst (λ (stop : ℕ). HasOutcome (next_in run.simulation.design) stop run.limit o) of.stop end))
 
   pub cut_short : (e : RunError) → IsEnd e → IsCut (behaviour_of design) options e
-  cut_short e (inl p) = inl (p.0 ∙ ap (λ (n : ℕ). refusal.CycleLimit n) of.limit, outcome_of LimitReached p.1)
+  cut_short e (inl p) = inl (p.0 ∙ ap (λ (n : ℕ). refusal.CycleLimit n) of.limit, outcome_of LimitReached p.1.1)
   cut_short e (inr p) = inr (p.0, (run.simulation.cycles, outcome_of (PostponedDeltaAfter run.simulation.cycles) p.1))
 
   pub refuses : (r : Result WaveStore RunError) → IfErr r IsEnd → IfErr r (IsRefusalAlone (behaviour_of design) options)

@@ -2,3 +2,4 @@ pub mod Finishing
 pub mod OkGives
 pub mod Programs
 pub mod Simulations
+pub mod LinesMeanwhile

@@ -1,3 +1,4 @@
 pub mod Run
 pub mod Session
 pub mod Simulation
+pub mod Streaming

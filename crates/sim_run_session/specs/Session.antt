@@ -1,5 +1,5 @@
 -- What the program promises about its words, its input and its output.
-use Rattle.std.specs.Prelude.{◌≡◌, ℕ, ◌+◌, List, length, Option, Some, None, true, ◌⊎◌}
+use Rattle.std.specs.Prelude.{◌≡◌, ℕ, ◌+◌, List, length, Bool, Option, Some, None, true, ◌⊎◌}
 use Rattle.std.specs.String.{string_bytes}
 use Rattle.std.specs.Io.KnownBytes.{Appends, Keeps, Consumes, IsAtEnd}
 use Rattle.sim_text_tokens.specs.declared.error.TextError.TheVariants as fault
@@ -14,6 +14,7 @@ use Rattle.sim_run_session.specs.declared.error.RunError.TheVariants as refusal
 use Rattle.sim_run_session.specs.declared.program.Failure.{Failure}
 use Rattle.sim_run_session.specs.declared.program.Failure.TheVariants as failure
 use Rattle.sim_run_session.specs.Simulation.{IsRefusalWithin}
+use Rattle.sim_run_session.specs.Streaming.{HasWritten}
 use Rattle.sim_run_listing.specs.Writing.{AppendsPart}
 
 -- these are the bytes that a reader had, if those are known
@@ -70,6 +71,12 @@ IsFailure limits unread options (failure.Run refusal.Options) = HasText unread (
 IsFailure limits unread options (failure.Run e) = AreInRange limits options × HasText unread (λ text. IsRefusalWithin limits text options e)
 IsFailure limits unread options failure.Read = Unit {0}
 IsFailure limits unread options failure.Memory = Unit {0}
+
+-- What was written if the program failed, in a run with lines at the end or while it goes on, of the text that the reader had.
+abbrev pub HasLeft : Bool → Limits → Option (List ℕ) → Options → Option (List ℕ) → Option (List ℕ) → Failure → Type 0
+HasLeft streams limits unread options old new (failure.Run e) = HasText unread (λ text. HasWritten streams limits text options old new e)
+HasLeft streams limits unread options old new failure.Read = Keeps old new
+HasLeft streams limits unread options old new failure.Memory = Keeps old new
 
 -- the status of the program (0 is success)
 abbrev pub status_of : Failure → ℕ

@@ -6,6 +6,7 @@ mod program;
 mod runs;
 mod settings;
 mod simulation;
+mod streaming;
 mod team;
 
 pub use error::RunError;

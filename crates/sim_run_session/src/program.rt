@@ -1,25 +1,26 @@
 //! The program, for any reader and two writers.
-ghost use Rattle.std.specs.Prelude.{◌≡◌, ◌≢◌, ◌≤◌, ◌<◌, ◌⊎◌, true, false, codes, OnOk, IfOk, IfErr, [], ◌∷◌, map, string_bytes};
+ghost use Rattle.std.specs.Prelude.{◌≡◌, ◌≢◌, ◌≤◌, ◌<◌, ◌⊎◌, ◌↔◌, false, Err, codes, OnOk, IfOk, IfErr, [], ◌∷◌, map, string_bytes};
 ghost use Rattle.std.specs.Io.KnownBytes.{Appends, Keeps};
 ghost use Rattle.std.specs.Str.Parse.{starts_with_minus};
 ghost use Rattle.sim_text_tokens.specs.Pieces.{Text};
-ghost use Rattle.sim_run_options.specs.Asks.{AreRefused, limits_of};
+ghost use Rattle.sim_run_options.specs.Asks.{AreRefused, limits_of, streams};
 ghost use Rattle.sim_run_options.specs.Limits.{bytes_of};
 ghost use Rattle.sim_run_options.specs.Options.{are_in_range_within};
 ghost use Rattle.sim_run_session.specs.declared.error.RunError.TheVariants as refusal;
 ghost use Rattle.sim_run_session.specs.declared.program.Failure.TheVariants as failure;
-ghost use Rattle.sim_run_session.specs.Run.{IsCutShort, Lists, ListsPart};
-ghost use Rattle.sim_run_session.specs.Session.{ReadsSource, HasText, HasRun, HasOptions, HasHelp, IsAnswerTo, IsFailure, status_of};
-ghost use Rattle.sim_run_session.specs.Simulation.{HasDesignWithin, IsRefusedText};
+ghost use Rattle.sim_run_session.specs.Run.{Lists};
+ghost use Rattle.sim_run_session.specs.Streaming.{HasWritten, IsCutAfter, IsStopped};
+ghost use Rattle.sim_run_session.specs.Session.{AreInRange, ReadsSource, HasText, HasRun, HasOptions, HasHelp, HasLeft, IsAnswerTo, IsFailure, status_of};
+ghost use Rattle.sim_run_session.specs.Simulation.{HasDesignWithin, IsRefusalWithin, IsRefusedText};
 ghost use Rattle.sim_run_listing.specs.Writing.{AppendsPart};
 
 use crate::error::RunError;
 use crate::settings::Settings;
-use crate::simulation::simulate_within;
+use crate::simulation::{simulate_streaming, simulate_within};
 use arrayvec::ArrayVec;
 use sim_flat::FlatError;
 use sim_run_listing::write_whole;
-use sim_run_options::{CliFault, Limits, Options, read_request};
+use sim_run_options::{CliFault, Limits, Request, read_request};
 use sim_run_team::Hints;
 use sim_text::TextError;
 use std::alloc::Global;
@@ -90,25 +91,59 @@ fn read_source<R: Read>(alloc: Global, input: &mut R, limits: Limits) -> Result<
     Err(Failure::Read)
 }
 
+/// Writes the listing of the run that is asked for of a text: while it goes on, if the words say so,
+/// and otherwise at its end.
+fn list<T: Threads + Wait + Sync, W: Write>(
+    rt: &T,
+    alloc: Global,
+    source: Vec<u8>,
+    request: &Request,
+    hints: Hints,
+    out: &mut W,
+) -> Result<(), RunError>
+    ensures options { (result ≡ Err RunError.Options) ↔ (are_in_range_within request.now.limits request.now.options.stop
+        request.now.options.limit request.now.options.workers ≡ false) }
+    ensures listed { OnOk result (HasDesignWithin request.now.limits source.items request.now.options (λ design.
+        Lists design request.now.options (W.contents out.old) (W.contents out.new))) }
+    ensures refused { IfErr result (λ e. e ≢ RunError.Write → IsRefusalWithin request.now.limits source.items request.now.options e) }
+    ensures written { IfErr result (HasWritten request.now.streams request.now.limits source.items request.now.options
+        (W.contents out.old) (W.contents out.new)) }
+{
+    let settings = Settings {
+        limits: request.limits,
+        hints,
+    };
+    if request.streams {
+        return simulate_streaming(rt, alloc, source, &request.options, settings, out);
+    }
+    simulate_within(
+        rt,
+        alloc,
+        source.as_slice(),
+        &request.options,
+        settings,
+        out,
+    )
+}
+
 /// Reads the source, and writes the listing of its run.
 fn carry_out<T: Threads + Wait + Sync, R: Read, W: Write>(
     rt: &T,
     alloc: Global,
-    options: &Options,
-    settings: Settings,
+    request: &Request,
+    hints: Hints,
     input: &mut R,
     out: &mut W,
 ) -> Result<(), Failure>
-    ensures range { OnOk result (are_in_range_within settings.limits options.now.stop options.now.limit options.now.workers ≡ true) }
-    ensures listed { OnOk result (HasText (R.remaining input.old) (λ text. HasDesignWithin settings.limits text options.now (λ design.
-        Lists design options.now (W.contents out.old) (W.contents out.new)))) }
-    ensures part { result ≡ Err (failure.Run refusal.Write) → HasText (R.remaining input.old) (λ text.
-        HasDesignWithin settings.limits text options.now (λ design. ListsPart design options.now (W.contents out.old) (W.contents out.new))) }
-    ensures failed { IfErr result (λ f. IsFailure settings.limits (R.remaining input.old) options.now f) }
-    ensures quiet { IfErr result (λ f. f ≢ failure.Run refusal.Write → Keeps (W.contents out.old) (W.contents out.new)) }
+    ensures range { OnOk result (AreInRange request.now.limits request.now.options) }
+    ensures listed { OnOk result (HasText (R.remaining input.old) (λ text. HasDesignWithin request.now.limits text request.now.options (λ design.
+        Lists design request.now.options (W.contents out.old) (W.contents out.new)))) }
+    ensures failed { IfErr result (λ f. IsFailure request.now.limits (R.remaining input.old) request.now.options f) }
+    ensures left { IfErr result (HasLeft request.now.streams request.now.limits (R.remaining input.old) request.now.options
+        (W.contents out.old) (W.contents out.new)) }
 {
-    let source = read_source(alloc, input, settings.limits)?;
-    match simulate_within(rt, alloc, source.as_slice(), options, settings, out) {
+    let source = read_source(alloc, input, request.limits)?;
+    match list(rt, alloc, source, request, hints, out) {
         Ok(()) => Ok(()),
         Err(refusal) => Err(Failure::Run(refusal)),
     }
@@ -155,7 +190,7 @@ fn explain<W: Write, E: Write>(fault: &CliFault, out: &mut W, err: &mut E) -> u8
 /// returns its status: 0 if the listing was written, 1 if the text was refused, 2 if the words or
 /// the options were refused, 3 if the run needs more cycles than the limit or a postponed process
 /// makes a delta cycle follow, 4 if memory ran out, or reading or writing failed. This holds for
-/// any number of workers. It reads at most one byte more than a text may have, by at most twice as
+/// any number of workers. With `--stream` lines are written while the run goes on. It reads at most one byte more than a text may have, by at most twice as
 /// many reads: 1,048,577 and 2,097,154, and with `--large` 268,435,457 and 536,870,914.
 ///
 /// If the words ask for help, its text goes to `out`, with status 0; if they are refused, the lines
@@ -178,15 +213,17 @@ pub fn session<T: Threads + Wait + Sync, R: Read, W: Write, E: Write>(
         are_in_range_within (limits_of (map string_bytes words.items)) options.stop options.limit options.workers ≡ false) }
     // `--top NAME` alone is not refused.
     ensures alone { (name : Text) → map string_bytes words.items ≡ codes "--top" ∷ name ∷ [] → starts_with_minus name ≡ false → result ≢ 2 }
-    ensures limit { result ≡ 3 →
-        HasRun (map string_bytes words.items) (R.remaining input.old) (λ text options.
-        HasDesignWithin (limits_of (map string_bytes words.items)) text options (λ design. IsCutShort design options)) }
-    ensures quiet { 0 < result → result < 4 → Keeps (W.contents out.old) (W.contents out.new) }
+    // The run is cut short: nothing was written or, with `--stream`, the lines up to there.
+    ensures limit { result ≡ 3 → HasRun (map string_bytes words.items) (R.remaining input.old) (λ text options.
+        HasDesignWithin (limits_of (map string_bytes words.items)) text options (λ design.
+        IsCutAfter (streams (map string_bytes words.items)) design options (W.contents out.old) (W.contents out.new))) }
+    ensures quiet { 0 < result → result < 3 → Keeps (W.contents out.old) (W.contents out.new) }
     // Memory ran out, or reading or writing failed: nothing was written, or a proper prefix of the
-    // listing or of the help.
+    // listing or of the help; with `--stream` also the first of the lines of a run that goes on.
     ensures stopped { result ≡ 4 → Keeps (W.contents out.old) (W.contents out.new)
         ⊎ (HasRun (map string_bytes words.items) (R.remaining input.old) (λ text options.
-        HasDesignWithin (limits_of (map string_bytes words.items)) text options (λ design. ListsPart design options (W.contents out.old) (W.contents out.new)))
+        HasDesignWithin (limits_of (map string_bytes words.items)) text options (λ design.
+        IsStopped (streams (map string_bytes words.items)) design options (W.contents out.old) (W.contents out.new)))
         ⊎ HasHelp (map string_bytes words.items) (λ help. AppendsPart (W.contents out.old) (W.contents out.new) help)) }
 {
     session_with_hints(rt, alloc, words, Hints::measured(), input, out, err)
@@ -213,26 +250,24 @@ pub fn session_with_hints<T: Threads + Wait + Sync, R: Read, W: Write, E: Write>
         are_in_range_within (limits_of (map string_bytes words.items)) options.stop options.limit options.workers ≡ false) }
     // `--top NAME` alone is not refused.
     ensures alone { (name : Text) → map string_bytes words.items ≡ codes "--top" ∷ name ∷ [] → starts_with_minus name ≡ false → result ≢ 2 }
-    ensures limit { result ≡ 3 →
-        HasRun (map string_bytes words.items) (R.remaining input.old) (λ text options.
-        HasDesignWithin (limits_of (map string_bytes words.items)) text options (λ design. IsCutShort design options)) }
-    ensures quiet { 0 < result → result < 4 → Keeps (W.contents out.old) (W.contents out.new) }
+    // The run is cut short: nothing was written or, with `--stream`, the lines up to there.
+    ensures limit { result ≡ 3 → HasRun (map string_bytes words.items) (R.remaining input.old) (λ text options.
+        HasDesignWithin (limits_of (map string_bytes words.items)) text options (λ design.
+        IsCutAfter (streams (map string_bytes words.items)) design options (W.contents out.old) (W.contents out.new))) }
+    ensures quiet { 0 < result → result < 3 → Keeps (W.contents out.old) (W.contents out.new) }
     // Memory ran out, or reading or writing failed: nothing was written, or a proper prefix of the
-    // listing or of the help.
+    // listing or of the help; with `--stream` also the first of the lines of a run that goes on.
     ensures stopped { result ≡ 4 → Keeps (W.contents out.old) (W.contents out.new)
         ⊎ (HasRun (map string_bytes words.items) (R.remaining input.old) (λ text options.
-        HasDesignWithin (limits_of (map string_bytes words.items)) text options (λ design. ListsPart design options (W.contents out.old) (W.contents out.new)))
+        HasDesignWithin (limits_of (map string_bytes words.items)) text options (λ design.
+        IsStopped (streams (map string_bytes words.items)) design options (W.contents out.old) (W.contents out.new)))
         ⊎ HasHelp (map string_bytes words.items) (λ help. AppendsPart (W.contents out.old) (W.contents out.new) help)) }
 {
     let request = match read_request(alloc, words) {
         Ok(request) => request,
         Err(fault) => return explain(&fault, out, err),
     };
-    let settings = Settings {
-        limits: request.limits,
-        hints,
-    };
-    match carry_out(rt, alloc, &request.options, settings, input, out) {
+    match carry_out(rt, alloc, &request, hints, input, out) {
         Ok(()) => 0,
         Err(failure) => {
             tell(err, failure);

@@ -88,7 +88,8 @@ fn run_in_shares<R: Threads + Wait + Sync>(
     ensures { IfSome result (λ run. IsRunOf design options.now run × (run.ended ≢ None)) }
 {
     let run = begun_run(alloc, design, options).ok()?;
-    carry_to_end(rt, alloc, run, options.workers, hints)
+    let ended = carry_to_end(rt, alloc, run.into_run(), options.workers, hints)?;
+    Some(WaveStore::of_run(ended))
 }
 
 /// The store of a finished run, carried out by a team of threads without a gate, up to the stop

@@ -3,11 +3,13 @@ ghost use Rattle.std.specs.Prelude.{◌≡◌, ◌≢◌, ◌↔◌, true, false
 ghost use Rattle.std.specs.Io.KnownBytes.{Keeps};
 ghost use Rattle.sim_run_options.specs.Options.{are_in_range, are_in_range_within};
 ghost use Rattle.sim_run_session.specs.Run.{Finishes, Lists, ListsPart, history_of};
+ghost use Rattle.sim_run_session.specs.Streaming.{HasWritten};
 ghost use Rattle.sim_run_session.specs.Simulation.{IsDesignOf, IsDesignWithin, HasDesign, HasDesignWithin, IsOfText, IsRefusal, IsRefusalWithin};
 
 use crate::error::RunError;
 use crate::runs::{run_alone, run_by_team, write_run};
 use crate::settings::Settings;
+use crate::streaming::run_and_list;
 use sim_flat::flatten_within;
 use sim_flat_design::Design;
 use sim_run_options::{Limits, Options};
@@ -155,4 +157,31 @@ pub fn simulate_within<R: Threads + Wait + Sync, W: Write>(
     }
     let run = run_text(rt, alloc, source, options, settings)?;
     write_run(alloc, &run, out)
+}
+
+/// Simulates the design in a text, and writes its listing while the run goes on, so that no more
+/// memory is needed the longer it runs. The text is dropped as soon as it has been elaborated. The
+/// refusals are those of `simulate_within`. After `CycleLimit` and `PostponedDelta` the lines of all
+/// records up to there have been written; after `Memory`, if memory runs out in any thread, and
+/// `Write` the first of the lines; otherwise nothing.
+pub fn simulate_streaming<R: Threads + Wait + Sync, W: Write>(
+    rt: &R,
+    alloc: Global,
+    source: Vec<u8>,
+    options: &Options,
+    settings: Settings,
+    out: &mut W,
+) -> Result<(), RunError>
+    ensures options { (result ≡ Err RunError.Options) ↔ (are_in_range_within settings.limits options.now.stop options.now.limit options.now.workers ≡ false) }
+    ensures listed { OnOk result (HasDesignWithin settings.limits source.items options.now (λ design.
+        Lists design options.now (W.contents out.old) (W.contents out.new))) }
+    ensures refused { IfErr result (λ e. e ≢ RunError.Write → IsRefusalWithin settings.limits source.items options.now e) }
+    ensures written { IfErr result (HasWritten true settings.limits source.items options.now (W.contents out.old) (W.contents out.new)) }
+{
+    if !options.are_in_range_within(settings.limits) {
+        return Err(RunError::Options);
+    }
+    let design = elaborate_within(alloc, source.as_slice(), options, settings.limits)?;
+    drop(source);
+    run_and_list(rt, alloc, design, options, settings.hints, out)
 }

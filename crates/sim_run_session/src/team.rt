@@ -1,15 +1,17 @@
-//! A run by a team of threads, from the present state of its store to its end: in each phase every
-//! thread executes a share of the processes that are due, by value.
+//! A run by a team of threads, from its present state to its end: in each phase every thread
+//! executes a share of the processes that are due, by value.
 
 ghost use Rattle.std.specs.Prelude.{◌≡◌, ◌≢◌, None, IfSome};
 ghost use Rattle.sim_store.specs.Handing as hands;
 ghost use Rattle.sim_store_simulation.specs.Simulation as simulations;
+ghost use Rattle.sim_store.specs.Run as runs;
 ghost use Rattle.sim_store.specs.WaveStore as store;
 ghost use Rattle.sim_store.specs.WaveStore.{IsSameRun};
+ghost use Rattle.sim_run_session.specs.Streaming.{HasGoneOn};
 
 use sim_exec::Frame;
 use sim_run_team::{Hints, Posts, Team, Work};
-use sim_store::{Answer, DesignType, Order, WaveStore};
+use sim_store::{Answer, DesignType, Order, Run};
 use std::alloc::{AllocError, Global};
 use std::marker::{Brand, PhantomData};
 use std::sync::Wait;
@@ -20,6 +22,17 @@ use std::thread::{Builder, Scope, Threads};
 /// a body, which are nested less than a hundred deep. The C library keeps the stacks of ended
 /// threads, so that a run which begins again on one thread has the less room the larger they are.
 const STACK_SIZE: usize = 512 * 1024;
+
+/// How a team carries on a run.
+#[derive(Clone, Copy)]
+pub struct Plan {
+    /// The most threads.
+    workers: usize,
+    /// When work is handed out to other threads. No answer depends on it.
+    hints: Hints,
+    /// How many entries the run's log has when the team stops, if the run has not ended before.
+    entries: usize,
+}
 
 /// The work of the phases of this design's run, in shares.
 struct PhaseWork<D: DesignType> {
@@ -61,9 +74,9 @@ impl<D: DesignType> Work for PhaseWork<D> {
 }
 
 /// Executes all processes that are due on this thread; `None` if memory runs out.
-fn execute_alone(alloc: Global, run: WaveStore) -> Option<WaveStore>
-    ensures same { IfSome result (λ s. s ≡ store.with_deposited run s.simulation.deposited) }
-    ensures complete { IfSome result (λ s. simulations.IsComplete s.simulation) }
+fn execute_alone(alloc: Global, run: Run) -> Option<Run>
+    ensures same { IfSome result (λ r. r ≡ runs.with_executed run r.store.simulation.deposited) }
+    ensures complete { IfSome result (λ r. simulations.IsComplete r.store.simulation) }
 {
     run.execute_due(alloc).ok()
 }
@@ -72,13 +85,13 @@ fn execute_alone(alloc: Global, run: WaveStore) -> Option<WaveStore>
 fn execute_in_shares<D: DesignType, R: Wait>(
     rt: &R,
     alloc: Global,
-    run: WaveStore,
+    run: Run,
     team: &mut Team<'_, PhaseWork<D>>,
-) -> Option<WaveStore>
-    requires design { run.simulation.design ≡ D.design }
-    requires untouched { hands.IsUntouched run }
-    ensures same { IfSome result (λ s. s ≡ store.with_deposited run s.simulation.deposited) }
-    ensures complete { IfSome result (λ s. simulations.IsComplete s.simulation) }
+) -> Option<Run>
+    requires design { run.store.simulation.design ≡ D.design }
+    requires untouched { hands.IsUntouched run.store }
+    ensures same { IfSome result (λ r. r ≡ runs.with_executed run r.store.simulation.deposited) }
+    ensures complete { IfSome result (λ r. simulations.IsComplete r.store.simulation) }
 {
     let (handed_out, shares) = run.hand_out::<D>(alloc).ok()?;
     let answers = team.carry_out(rt, alloc, shares)?;
@@ -93,13 +106,13 @@ fn execute_in_shares<D: DesignType, R: Wait>(
 fn execute<D: DesignType, R: Wait>(
     rt: &R,
     alloc: Global,
-    run: WaveStore,
+    run: Run,
     team: &mut Team<'_, PhaseWork<D>>,
     least: usize,
-) -> Option<WaveStore>
-    requires { run.simulation.design ≡ D.design }
-    ensures same { IfSome result (λ s. s ≡ store.with_deposited run s.simulation.deposited) }
-    ensures complete { IfSome result (λ s. simulations.IsComplete s.simulation) }
+) -> Option<Run>
+    requires { run.store.simulation.design ≡ D.design }
+    ensures same { IfSome result (λ r. r ≡ runs.with_executed run r.store.simulation.deposited) }
+    ensures complete { IfSome result (λ r. simulations.IsComplete r.store.simulation) }
 {
     if !run.is_untouched() || !run.has_busy(least) {
         return execute_alone(alloc, run);
@@ -111,34 +124,37 @@ fn execute<D: DesignType, R: Wait>(
 fn go_on<D: DesignType, R: Wait>(
     rt: &R,
     alloc: Global,
-    run: WaveStore,
+    run: Run,
     team: &mut Team<'_, PhaseWork<D>>,
     least: usize,
-) -> Option<WaveStore>
-    requires design { run.simulation.design ≡ D.design }
-    requires open { store.IsOpen run }
-    ensures { IfSome result (IsSameRun run) }
+) -> Option<Run>
+    requires design { run.store.simulation.design ≡ D.design }
+    requires open { store.IsOpen run.store }
+    ensures { IfSome result (HasGoneOn run) }
 {
     let mut run = execute(rt, alloc, run, team, least)?;
+    run.is_within_bounds();
     // All that are due were executed and the run has not ended, so an error means lack of memory.
     run.advance(alloc).ok()?;
     Some(run)
 }
 
-/// Carries on a run until it has ended; `None` if the team fails or memory runs out.
+/// Carries on a run until it has ended or its log has so many entries; `None` if the team fails or
+/// memory runs out.
 fn lead<D: DesignType, R: Wait>(
     rt: &R,
     alloc: Global,
-    run: WaveStore,
+    run: Run,
     team: &mut Team<'_, PhaseWork<D>>,
-) -> Option<WaveStore>
-    requires { run.simulation.design ≡ D.design }
-    ensures { IfSome result (λ r. IsSameRun run r × (r.ended ≢ None)) }
+    entries: usize,
+) -> Option<Run>
+    requires { run.store.simulation.design ≡ D.design }
+    ensures { IfSome result (HasGoneOn run) }
 {
     let least = team.least_processes(run.mean_length());
     let mut run = run;
     for _turn in rt.forever() {
-        if run.ended().is_some() {
+        if run.ended().is_some() || run.log().has_entries(entries) {
             return Some(run);
         }
         run = go_on(rt, alloc, run, team, least)?;
@@ -146,21 +162,20 @@ fn lead<D: DesignType, R: Wait>(
     None
 }
 
-/// Carries on a run until it has ended, with the workers at the first `hired` posts; `None` if
-/// the team fails.
+/// The same, with the workers at the first `hired` posts.
 fn lead_hired<D: DesignType, R: Wait>(
     rt: &R,
     alloc: Global,
-    run: WaveStore,
+    run: Run,
     posts: &Posts<PhaseWork<D>>,
     hired: usize,
-    hints: Hints,
-) -> Option<WaveStore>
-    requires { run.simulation.design ≡ D.design }
-    ensures { IfSome result (λ r. IsSameRun run r × (r.ended ≢ None)) }
+    plan: Plan,
+) -> Option<Run>
+    requires { run.store.simulation.design ≡ D.design }
+    ensures { IfSome result (HasGoneOn run) }
 {
-    let mut team = Team::new(posts, hired, hints);
-    lead(rt, alloc, run, &mut team)
+    let mut team = Team::new(posts, hired, plan.hints);
+    lead(rt, alloc, run, &mut team, plan.entries)
 }
 
 /// Starts a thread for each post, as long as threads can be started. Returns how many posts have
@@ -183,56 +198,56 @@ fn hire<'s, D: DesignType + Send + Sync + 's, R: Threads + Wait + Sync, E>(
     posts.len()
 }
 
-/// Carries a run of the design that `D` names to its end. It starts a thread for each post, as many
-/// as can be. `None` if the team fails or memory runs out.
+/// Carries on a run of the design that `D` names until it has ended or its log has so many entries
+/// as the plan says. It starts a thread for each post, as many as can be. `None` if the team fails
+/// or memory runs out.
 fn run_at<D: DesignType + Send + Sync, R: Threads + Wait + Sync>(
     rt: &R,
     alloc: Global,
-    run: WaveStore,
+    run: Run,
     posts: &Posts<PhaseWork<D>>,
-    hints: Hints,
-) -> Option<WaveStore>
-    requires { run.simulation.design ≡ D.design }
-    ensures { IfSome result (λ r. IsSameRun run r × (r.ended ≢ None)) }
+    plan: Plan,
+) -> Option<Run>
+    requires { run.store.simulation.design ≡ D.design }
+    ensures { IfSome result (HasGoneOn run) }
 {
     thread::scope(
         thread::scope_env(),
         rt,
-        |scope| -> Option<WaveStore>
-            requires { run.simulation.design ≡ D.design }
-            ensures { IfSome result (λ r. IsSameRun run r × (r.ended ≢ None)) }
+        |scope| -> Option<Run>
+            requires { run.store.simulation.design ≡ D.design }
+            ensures { IfSome result (HasGoneOn run) }
         {
             let hired = hire(scope, rt, alloc, posts);
-            lead_hired(rt, alloc, run, posts, hired, hints)
+            lead_hired(rt, alloc, run, posts, hired, plan)
         },
     )
 }
 
-/// The same by at most `workers` threads, of which this is one.
+/// The same, with posts for as many threads as the plan says, of which this is one.
 fn run_by<D: DesignType + Send + Sync, R: Threads + Wait + Sync>(
     rt: &R,
     alloc: Global,
-    run: WaveStore,
-    workers: usize,
-    hints: Hints,
-) -> Option<WaveStore>
-    requires { run.simulation.design ≡ D.design }
-    ensures { IfSome result (λ r. IsSameRun run r × (r.ended ≢ None)) }
+    run: Run,
+    plan: Plan,
+) -> Option<Run>
+    requires { run.store.simulation.design ≡ D.design }
+    ensures { IfSome result (HasGoneOn run) }
 {
-    let others = workers.saturating_sub(1);
+    let others = plan.workers.saturating_sub(1);
     let posts = Posts::new(
         alloc,
         others,
-        hints.orders_of_a_thread,
-        hints.looks_before_sleep,
+        plan.hints.orders_of_a_thread,
+        plan.hints.looks_before_sleep,
     )?;
-    run_at::<D, R>(rt, alloc, run, &posts, hints)
+    run_at::<D, R>(rt, alloc, run, &posts, plan)
 }
 
 /// The number of threads that are useful for a run, at most `workers`: one if bodies are short, and
 /// otherwise as many as have enough to do where all processes are due, and one for each processor at
 /// most.
-fn useful<R: Threads>(rt: &R, run: &WaveStore, workers: usize, hints: Hints) -> usize {
+fn useful<R: Threads>(rt: &R, run: &Run, workers: usize, hints: Hints) -> usize {
     let length = run.mean_length();
     if length < hints.least_steps_of_a_process {
         return 1;
@@ -244,21 +259,63 @@ fn useful<R: Threads>(rt: &R, run: &WaveStore, workers: usize, hints: Hints) -> 
         .max(1)
 }
 
-/// Carries on a run from the present state of its store until it has ended, by at most `workers`
-/// threads. In each phase with enough work, by the hints, each thread gets shares of the processes
-/// that are due, by value, and then executes those that no other has begun. A caller cannot tell
-/// which thread executes which process. `None` if the team fails: one of its threads
-/// had no memory. The store is then lost, and the run may begin again on the calling thread.
-pub fn carry_to_end<R: Threads + Wait + Sync>(
+/// The plan by which a team of at most `workers` threads carries on a run, and the run with its
+/// processes in as many shares as the plan needs. Each thread adds `entries` to those that a log has
+/// before the team stops.
+pub fn planned<R: Threads>(
     rt: &R,
     alloc: Global,
-    run: WaveStore,
+    run: Run,
     workers: usize,
     hints: Hints,
-) -> Option<WaveStore>
-    ensures { IfSome result (λ r. IsSameRun run r × (r.ended ≢ None)) }
+    entries: usize,
+) -> Option<(Plan, Run)>
+    ensures { IfSome result (λ r. r.1 ≡ run) }
 {
     let workers = useful(rt, &run, workers, hints);
     let run = run.divide(alloc, hints.orders(workers)).ok()?;
-    run_by::<Brand, R>(rt, alloc, run, workers, hints)
+    let plan = Plan {
+        workers,
+        hints,
+        entries: entries.saturating_mul(workers),
+    };
+    Some((plan, run))
+}
+
+/// Carries on a run from its present state until it has ended or its log has so many entries as the
+/// plan says, by at most so many threads. In each phase with enough work, by the hints, each thread
+/// gets shares of the processes that are due, by value, and then executes those that no other has
+/// begun. A caller cannot tell which thread executes which process. `None` if the team fails: one of
+/// its threads had no memory. The run is then lost, and may begin again on the calling thread.
+pub fn carry_on<R: Threads + Wait + Sync>(
+    rt: &R,
+    alloc: Global,
+    run: Run,
+    plan: Plan,
+) -> Option<Run>
+    ensures { IfSome result (HasGoneOn run) }
+{
+    run_by::<Brand, R>(rt, alloc, run, plan)
+}
+
+/// Carries on a run until it has ended, by at most `workers` threads; `None` if the team fails.
+pub fn carry_to_end<R: Threads + Wait + Sync>(
+    rt: &R,
+    alloc: Global,
+    run: Run,
+    workers: usize,
+    hints: Hints,
+) -> Option<Run>
+    ensures same { IfSome result (λ r. IsSameRun run.store r.store × (r.given ≡ run.given)) }
+    ensures ended { IfSome result (λ r. r.store.ended ≢ None) }
+{
+    let (plan, run) = planned(rt, alloc, run, workers, hints, usize::MAX)?;
+    let mut run = run;
+    for _turn in rt.forever() {
+        if run.ended().is_some() {
+            return Some(run);
+        }
+        run = carry_on(rt, alloc, run, plan)?;
+    }
+    None
 }

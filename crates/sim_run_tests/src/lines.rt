@@ -7,7 +7,7 @@ ghost use Rattle.sim_standard.specs.Records.{IsNamed, event_count};
 use sim_flat_design::{InstancePath, Net};
 use sim_logic::Logic;
 use sim_run_listing::{WriteError, write_listing, write_whole};
-use sim_store_state::{Log, Record};
+use sim_store_state::{Log, Past, Record};
 use sqlite_items::Items;
 use std::alloc::{AllocError, Global};
 use std::io;
@@ -155,5 +155,5 @@ fn all_bytes_are_written(rt: HostRuntime) {
 
 #[test]
 fn a_log_begins_with_no_records(rt: HostRuntime) {
-    assert!(rt; Log::new(rt.alloc()).len() == 0);
+    assert!(rt; Log::new(rt.alloc(), Past::none()).len() == 0);
 }

@@ -6,17 +6,19 @@ use std::alloc::{AllocError, Global};
 use std::test::Fail;
 
 /// A line of words; the top, the stop time, the limit and the number of workers that it gives;
-/// whether it asks for a large run, and whether the others are in its ranges.
-type Row<'a> = (&'a str, &'a str, u64, u32, usize, bool, bool);
+/// whether it asks for a large run, and for lines while it goes on, and whether the others are in
+/// its ranges.
+type Row<'a> = (&'a str, &'a str, u64, u32, usize, bool, bool, bool);
 
 /// Lines that are accepted.
-static TAKEN: [Row<'_>; 9] = [
+static TAKEN: [Row<'_>; 11] = [
     (
         "--top t",
         "t",
         4_611_686_018_427_387_903,
         10_000,
         1,
+        false,
         false,
         true,
     ),
@@ -27,6 +29,7 @@ static TAKEN: [Row<'_>; 9] = [
         2,
         16,
         false,
+        false,
         true,
     ),
     (
@@ -36,6 +39,7 @@ static TAKEN: [Row<'_>; 9] = [
         7,
         1,
         false,
+        false,
         true,
     ),
     (
@@ -44,6 +48,7 @@ static TAKEN: [Row<'_>; 9] = [
         4_611_686_018_427_387_903,
         10_000,
         1,
+        false,
         false,
         true,
     ),
@@ -55,6 +60,7 @@ static TAKEN: [Row<'_>; 9] = [
         17,
         false,
         false,
+        false,
     ),
     (
         "--top t --limit 1000001",
@@ -62,6 +68,7 @@ static TAKEN: [Row<'_>; 9] = [
         4_611_686_018_427_387_903,
         1_000_001,
         1,
+        false,
         false,
         false,
     ),
@@ -72,6 +79,7 @@ static TAKEN: [Row<'_>; 9] = [
         4_294_967_295,
         1,
         true,
+        false,
         true,
     ),
     (
@@ -81,6 +89,7 @@ static TAKEN: [Row<'_>; 9] = [
         1_000_001,
         1,
         true,
+        false,
         true,
     ),
     (
@@ -91,11 +100,32 @@ static TAKEN: [Row<'_>; 9] = [
         1,
         true,
         false,
+        false,
+    ),
+    (
+        "--stream --top t",
+        "t",
+        4_611_686_018_427_387_903,
+        10_000,
+        1,
+        false,
+        true,
+        true,
+    ),
+    (
+        "--top t --large --workers 2 --stream",
+        "t",
+        4_611_686_018_427_387_903,
+        4_294_967_295,
+        2,
+        true,
+        true,
+        true,
     ),
 ];
 
 /// Lines that are refused, and parts of the refusal.
-static REFUSED: [(&str, &[&str]); 15] = [
+static REFUSED: [(&str, &[&str]); 17] = [
     ("", &[]),
     ("t", &[]),
     ("--top", &[]),
@@ -114,18 +144,21 @@ static REFUSED: [(&str, &[&str]); 15] = [
     ("--stop 5", &[]),
     ("--top t --large --large", &[]),
     ("--top t --large=true", &[]),
+    ("--top t --stream --stream", &[]),
+    ("--top t --stream=false", &[]),
 ];
 
 /// Lines that ask for the help.
 static HELP: [&str; 3] = ["--help", "-h", "--top t --help"];
 
 /// Parts of the help.
-static PARTS: [&str; 9] = [
+static PARTS: [&str; 10] = [
     "Usage: vsim [OPTIONS] --top <NAME>\n",
     "--stop <FS>",
     "--limit <N>",
     "--workers <N>",
     "--large",
+    "--stream",
     "TIME DELTA NAME VALUE",
     "done CYCLES EVENTS",
     "3  the run needs more simulation cycles than the limit",
@@ -148,14 +181,21 @@ fn read(alloc: Global, line: &str) -> Result<Result<Request, CliFault>, AllocErr
 
 /// Whether the line of a row is accepted, with its values.
 fn is_taken(alloc: Global, row: &Row<'_>) -> Result<bool, AllocError> {
-    let (line, top, stop, limit, workers, is_large, in_range) = *row;
+    let (line, top, stop, limit, workers, is_large, is_streaming, in_range) = *row;
     match read(alloc, line)? {
-        Ok(Request { options, limits }) => Ok(
+        Ok(
+            Request {
+                options,
+                limits,
+                streams,
+            },
+        ) => Ok(
             options.top.as_str() == top
                 && options.stop == stop
                 && options.limit == limit
                 && options.workers == workers
                 && matches!(limits, Limits::Large) == is_large
+                && streams == is_streaming
                 && options.are_in_range_within(limits) == in_range,
         ),
         Err(_) => Ok(false),

@@ -1,8 +1,8 @@
-use Rattle.std.proofs.Common.{inl, rules, sym, ◌∙◌, map}
+use Rattle.std.proofs.Common.{arith, inl, rules, sym, ◌∙◌, map}
 use Rattle.std.specs.Prelude.{string_bytes}
-use Rattle.sim_run_session.specs.Run.{Lists, ListsPart}
+use Rattle.sim_run_session.specs.Run.{Lists}
 use Rattle.sim_run_session.specs.Simulation.{HasDesignWithin}
-use Rattle.sim_run_session.proofs.Programs.{has_run, status_1, status_2, status_3, stopped}
+use Rattle.sim_run_session.proofs.Programs.{has_run, quiet, status_1, status_2, status_3, stopped}
 use Rattle.sim_run_session.proofs.program.session_with_hints.Goals as goal
 
 pub returns-in-Ok-carry_out-clause-success : goal.returns-in-Ok-carry_out-clause-success
@@ -32,11 +32,17 @@ returns-clause-words g c =
 pub returns-clause-limit : goal.returns-clause-limit
 returns-clause-limit g c =
     λ is. status_3 (map string_bytes c.args.words.items) (g.R.Read.remaining c.args.input.now) c.in-Ok.request c.in-Ok.ensures.read
-    c.in-Err-carry_out.failure (sym c.status_of_failure.ensures ∙ is) c.in-Err-carry_out.ensures.failed
+    c.in-Err-carry_out.failure (g.W.Write.contents c.args.out.now) (g.W.Write.contents c.carry_out.new.out) (sym c.status_of_failure.ensures ∙ is)
+    c.in-Err-carry_out.ensures.failed c.in-Err-carry_out.ensures.left
+
+pub returns-clause-quiet : goal.returns-clause-quiet
+returns-clause-quiet g c = λ some few.
+    quiet (map string_bytes c.args.words.items) (g.R.Read.remaining c.args.input.now) c.in-Ok.request c.in-Ok.ensures.read
+    c.in-Err-carry_out.failure (g.W.Write.contents c.args.out.now) (g.W.Write.contents c.carry_out.new.out) (omega (arith, c.status_of_failure.ensures, few))
+    c.in-Err-carry_out.ensures.left
 
 pub returns-clause-stopped : goal.returns-clause-stopped
 returns-clause-stopped g c = λ is.
     stopped (map string_bytes c.args.words.items) (g.R.Read.remaining c.args.input.now) c.in-Ok.request c.in-Ok.ensures.read
-    (λ limits text options. HasDesignWithin limits text options (λ design. ListsPart design options (g.W.Write.contents c.args.out.now)
-    (g.W.Write.contents c.carry_out.new.out)))
-    c.in-Err-carry_out.failure c.in-Err-carry_out.ensures.failed c.in-Err-carry_out.ensures.quiet c.in-Err-carry_out.ensures.part
+    c.in-Err-carry_out.failure (g.W.Write.contents c.args.out.now) (g.W.Write.contents c.carry_out.new.out) (sym c.status_of_failure.ensures ∙ is)
+    c.in-Err-carry_out.ensures.failed c.in-Err-carry_out.ensures.left

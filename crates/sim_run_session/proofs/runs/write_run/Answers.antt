@@ -28,3 +28,6 @@ returns-in_err-write_log-clause-part g c =
 
 pub write_log-requires-clause-events : goal.write_log-requires-clause-events
 write_log-requires-clause-events g c = search rules
+
+pub write_log-requires-clause-early : goal.write_log-requires-clause-early
+write_log-requires-clause-early g c = rw c.history.ensures.past (omega arith)
