@@ -88,6 +88,8 @@ BODIES = [
         ("        self.log.give(alloc, last)", "        let given = self.log.give(alloc, last);\n        std::mem::replace(&mut self.log, given)")]),
     Body("records to come begin at time 0", "sim_store_state", "log.rt", "log::Log::give", "past", 1, [
         ("            time: last.0,", "            time: 0,")]),
+    Body("the last piece of a listing is lost", "sim_run_session", "beside.rt", "beside::carry_and_write", "listed", 1, [
+        ("            names.write(&piece, out)?;", "            names.write(&Log::new(alloc, Past::none()), out)?;")]),
     Body("a driver is listed twice", "sim_containers", "times.rt", "times::TimeQueue::take_due", "drivers", 1, [
         ("        taken.list(&mut drivers);",
          "        taken.list(&mut drivers);\n"

@@ -3,3 +3,4 @@ pub mod OkGives
 pub mod Programs
 pub mod Simulations
 pub mod LinesMeanwhile
+pub mod LinesBeside

@@ -35,14 +35,14 @@ lines design records = flat_map (lines_of (behaviour_of design).names) records
 -- ---- some of the bytes
 
 -- a proper prefix is some
-first_of_part : (a b : Option (List ℕ)) (bytes : List ℕ) → AppendsPart a b bytes → AppendsFirst a b bytes
+pub first_of_part : (a b : Option (List ℕ)) (bytes : List ℕ) → AppendsPart a b bytes → AppendsFirst a b bytes
 first_of_part None b bytes p = record { written = bytes; others = []; both = append-nil bytes; appended = tt }
 first_of_part (Some xs) None bytes p = absurd p
 first_of_part (Some xs) (Some ys) bytes p =
     record { written = take p.0 bytes; others = drop p.0 bytes; both = take-append-drop p.0 bytes; appended = p.2 }
 
 -- some after others
-first_after : (a b c : Option (List ℕ)) (xs ys : List ℕ) → Appends a b xs → AppendsFirst b c ys → AppendsFirst a c (xs ++ ys)
+pub first_after : (a b c : Option (List ℕ)) (xs ys : List ℕ) → Appends a b xs → AppendsFirst b c ys → AppendsFirst a c (xs ++ ys)
 first_after a b c xs ys p q = record {
   written = xs ++ q.written;
   others = q.others;

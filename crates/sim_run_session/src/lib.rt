@@ -1,7 +1,9 @@
 //! From the text of a design to its listing, and the whole program.
 #![tactic(auto)]
 
+mod beside;
 mod error;
+mod names;
 mod program;
 mod runs;
 mod settings;

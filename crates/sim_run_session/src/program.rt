@@ -93,7 +93,7 @@ fn read_source<R: Read>(alloc: Global, input: &mut R, limits: Limits) -> Result<
 
 /// Writes the listing of the run that is asked for of a text: while it goes on, if the words say so,
 /// and otherwise at its end.
-fn list<T: Threads + Wait + Sync, W: Write>(
+fn list<T: Threads + Wait + Sync, W: Write + Send>(
     rt: &T,
     alloc: Global,
     source: Vec<u8>,
@@ -127,7 +127,7 @@ fn list<T: Threads + Wait + Sync, W: Write>(
 }
 
 /// Reads the source, and writes the listing of its run.
-fn carry_out<T: Threads + Wait + Sync, R: Read, W: Write>(
+fn carry_out<T: Threads + Wait + Sync, R: Read, W: Write + Send>(
     rt: &T,
     alloc: Global,
     request: &Request,
@@ -195,7 +195,7 @@ fn explain<W: Write, E: Write>(fault: &CliFault, out: &mut W, err: &mut E) -> u8
 ///
 /// If the words ask for help, its text goes to `out`, with status 0; if they are refused, the lines
 /// of `clap` that say why go to `err`. In both cases nothing is read.
-pub fn session<T: Threads + Wait + Sync, R: Read, W: Write, E: Write>(
+pub fn session<T: Threads + Wait + Sync, R: Read, W: Write + Send, E: Write>(
     rt: &T,
     alloc: Global,
     words: Vec<String>,
@@ -231,7 +231,7 @@ pub fn session<T: Threads + Wait + Sync, R: Read, W: Write, E: Write>(
 
 /// The same, with the caller's hints on when to hand out work to other threads. No answer depends
 /// on them.
-pub fn session_with_hints<T: Threads + Wait + Sync, R: Read, W: Write, E: Write>(
+pub fn session_with_hints<T: Threads + Wait + Sync, R: Read, W: Write + Send, E: Write>(
     rt: &T,
     alloc: Global,
     words: Vec<String>,

@@ -164,7 +164,7 @@ pub fn simulate_within<R: Threads + Wait + Sync, W: Write>(
 /// refusals are those of `simulate_within`. After `CycleLimit` and `PostponedDelta` the lines of all
 /// records up to there have been written; after `Memory`, if memory runs out in any thread, and
 /// `Write` the first of the lines; otherwise nothing.
-pub fn simulate_streaming<R: Threads + Wait + Sync, W: Write>(
+pub fn simulate_streaming<R: Threads + Wait + Sync, W: Write + Send>(
     rt: &R,
     alloc: Global,
     source: Vec<u8>,

@@ -13,7 +13,9 @@ ghost use Rattle.sim_run_session.specs.Run.{IsRunOf};
 ghost use Rattle.sim_run_session.specs.Streaming as spec;
 ghost use Rattle.sim_run_session.specs.Streaming.{AreTheirNames, Continues, Stops};
 
+use crate::beside::carry_and_write;
 use crate::error::RunError;
+use crate::names::Names;
 use crate::team::{Plan, carry_on, planned};
 use sim_flat_design::Design;
 use sim_run_listing::{KnownNames, Totals, write_last_records, write_records};
@@ -176,8 +178,32 @@ fn carry_and_list<R: Threads + Wait + Sync, W: Write>(
     unreachable!()
 }
 
+/// The same; where there may be another thread, that one writes the lines meanwhile.
+fn carry_and_list_by<R: Threads + Wait + Sync, W: Write + Send>(
+    rt: &R,
+    alloc: Global,
+    run: Run,
+    plan: Plan,
+    known: &KnownNames,
+    out: &mut W,
+) -> Result<Run, RunError>
+    requires { AreTheirNames run known.now }
+    ensures same { IfOk result (λ r. IsSameRun run.store r.store × (r.store.ended ≢ None)) }
+    ensures listed { IfOk result (λ r. Continues run (W.contents out.old) r (W.contents out.new)) }
+    ensures stopped { OnErr result (Stops run (W.contents out.old) (W.contents out.new)) }
+    ensures err { IfErr result (λ e. (e ≡ refusal.Memory) ⊎ (e ≡ refusal.Write)) }
+{
+    if !plan.is_shared {
+        return carry_and_list(rt, alloc, run, plan, known, out);
+    }
+    match Names::of(alloc, run.design().nets()) {
+        Ok(names) => carry_and_write(rt, alloc, run, plan, &names, out),
+        Err(_no_memory) => carry_and_list(rt, alloc, run, plan, known, out),
+    }
+}
+
 /// The same for a run of which no records were given away, with the rest of its listing.
-fn list_run<R: Threads + Wait + Sync, W: Write>(
+fn list_run<R: Threads + Wait + Sync, W: Write + Send>(
     rt: &R,
     alloc: Global,
     run: Run,
@@ -190,7 +216,7 @@ fn list_run<R: Threads + Wait + Sync, W: Write>(
     ensures { spec.IsListed (behaviour_of run.store.simulation.design) options.now (W.contents out.old) (W.contents out.new) result }
 {
     let known = KnownNames::of(alloc, run.design().nets());
-    match carry_and_list(rt, alloc, run, plan, &known, out) {
+    match carry_and_list_by(rt, alloc, run, plan, &known, out) {
         Ok(run) => end_listing(&run, options, &known, out),
         Err(failed) => Err(failed),
     }
@@ -216,7 +242,7 @@ fn begun<R: Threads>(
 /// written, and the records given away. So it takes no more memory the longer it runs. The refusals:
 /// `CycleLimit` and `PostponedDelta`, once the lines up to there have been written; `Memory`, if
 /// memory runs out in any thread, and `Write`, after the first of the lines.
-pub fn run_and_list<R: Threads + Wait + Sync, W: Write>(
+pub fn run_and_list<R: Threads + Wait + Sync, W: Write + Send>(
     rt: &R,
     alloc: Global,
     design: Design,

@@ -32,6 +32,8 @@ pub struct Plan {
     hints: Hints,
     /// How many entries the run's log has when the team stops, if the run has not ended before.
     entries: usize,
+    /// Whether another thread may write lines while these go on.
+    pub is_shared: bool,
 }
 
 /// The work of the phases of this design's run, in shares.
@@ -272,12 +274,14 @@ pub fn planned<R: Threads>(
 ) -> Option<(Plan, Run)>
     ensures { IfSome result (λ r. r.1 ≡ run) }
 {
+    let is_shared = workers > 1;
     let workers = useful(rt, &run, workers, hints);
     let run = run.divide(alloc, hints.orders(workers)).ok()?;
     let plan = Plan {
         workers,
         hints,
         entries: entries.saturating_mul(workers),
+        is_shared,
     };
     Some((plan, run))
 }

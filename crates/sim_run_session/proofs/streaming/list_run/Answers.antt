@@ -18,4 +18,4 @@ returns-in-Ok g c =
 pub returns : goal.returns
 returns g c =
     listed_in_part c.args.run c.args.options.now c.requires.of c.requires.whole (g.W.Write.contents c.args.out.now)
-    (g.W.Write.contents c.carry_and_list.new.out) c.in-Err.failed c.in-Err.ensures.err c.in-Err.ensures.stopped
+    (g.W.Write.contents c.carry_and_list_by.new.out) c.in-Err.failed c.in-Err.ensures.err c.in-Err.ensures.stopped
