@@ -1,12 +1,12 @@
 #!/usr/bin/env python3
 """Measures what threads gain: whole runs of vsim with one worker and with several, whose listing is discarded.
 
-    workers.py PROGRAM [--workers N ..] [--repeat N] [--load N] [SHAPE ..]
+    workers.py PROGRAM [--workers N ..] [--repeat N] [--load N] [--stream] [SHAPE ..]
 
 The shapes are those of shapes.py; `wide`, a shift register of 60,000 flip-flops on one clock; and `cells`, 8,000 instances of an
 entity with a long process on one clock. For each shape and number of workers (1, 2, 3 and 4) the least wall seconds of N runs (3),
 and the processor seconds of that run. All listings of a shape must be the same, byte for byte. With --load this many processes that
-never wait run at the same time.
+never wait run at the same time. With --stream lines are written while the run goes on.
 
 The last column is how much more work the machine does by several processors: as many runs as the greatest number of workers, each by
 one worker, are made at once, and N times the seconds of one alone are divided by theirs. No number of threads can gain more than that
@@ -31,9 +31,9 @@ def wide():
 ALL = {**SHAPES, "wide": wide, "cells": lambda: cells(8_000, 400)}
 
 
-def once(program, workers, source, stop):
+def once(program, more, workers, source, stop):
     """Wall seconds, processor seconds and the digest of the listing."""
-    words = [program, "--top", "t", "--stop", str(stop), "--limit", "1000000", "--workers", str(workers)]
+    words = [program, "--top", "t", "--stop", str(stop), "--limit", "1000000", "--workers", str(workers), *more]
     with open(source, "rb") as file, tempfile.TemporaryFile() as listing:
         start = time.monotonic()
         child = subprocess.Popen(words, stdin=file, stdout=listing)
@@ -68,6 +68,7 @@ def main():
     given.add_argument("--workers", type=int, nargs="+", default=[1, 2, 3, 4])
     given.add_argument("--repeat", type=int, default=3)
     given.add_argument("--load", type=int, default=0)
+    given.add_argument("--stream", dest="more", action="store_const", const=["--stream"], default=[])
     given = given.parse_intermixed_args()
     busy = [subprocess.Popen([sys.executable, "-c", "while True: pass"]) for _ in range(given.load)]
     try:
@@ -88,7 +89,7 @@ def measure(program, given):
             source.write(text)
             source.flush()
             # in turn, so that other load on the machine affects all alike
-            runs = [[once(program, count, source.name, stop) for count in given.workers] for _ in range(given.repeat)]
+            runs = [[once(program, given.more, count, source.name, stop) for count in given.workers] for _ in range(given.repeat)]
             alone, together = (min(at_once(program, count, source.name, stop) for _ in range(given.repeat)) for count in (1, most))
         if len({run[2] for turn in runs for run in turn}) != 1:
             sys.exit(f"workers: {name}: the listings differ")
