@@ -23,7 +23,7 @@ fn words(alloc: Global, line: &str) -> Result<Vec<String>, AllocError> {
 }
 
 /// Runs the program on a line of words, and returns its status.
-fn status_of<T: Threads + Wait + Sync, R: Read, W: Write, E: Write>(
+fn status_of<T: Threads + Wait + Sync, R: Read, W: Write + Send, E: Write>(
     rt: &T,
     alloc: Global,
     line: &str,
