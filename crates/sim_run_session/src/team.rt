@@ -141,6 +141,34 @@ fn go_on<D: DesignType, R: Wait>(
     Some(run)
 }
 
+/// Carries out one phase of a cycle on this thread, and goes on; `None` if memory runs out.
+#[inline(always)]
+fn go_on_alone(alloc: Global, run: Run) -> Option<Run>
+    requires { store.IsOpen run.store }
+    ensures { IfSome result (HasGoneOn run) }
+{
+    let mut run = execute_alone(alloc, run)?;
+    run.is_within_bounds();
+    // All that are due were executed and the run has not ended, so an error means lack of memory.
+    run.advance(alloc).ok()?;
+    Some(run)
+}
+
+/// Carries on a run on this thread until it has ended or its log has so many entries; `None` if
+/// memory runs out.
+fn carry_on_alone<R: Wait>(rt: &R, alloc: Global, run: Run, entries: usize) -> Option<Run>
+    ensures { IfSome result (HasGoneOn run) }
+{
+    let mut run = run;
+    for _turn in rt.forever() {
+        if run.ended().is_some() || run.log().has_entries(entries) {
+            return Some(run);
+        }
+        run = go_on_alone(alloc, run)?;
+    }
+    None
+}
+
 /// Carries on a run until it has ended or its log has so many entries; `None` if the team fails or
 /// memory runs out.
 fn lead<D: DesignType, R: Wait>(
@@ -299,6 +327,9 @@ pub fn carry_on<R: Threads + Wait + Sync>(
 ) -> Option<Run>
     ensures { IfSome result (HasGoneOn run) }
 {
+    if plan.workers == 1 {
+        return carry_on_alone(rt, alloc, run, plan.entries);
+    }
     run_by::<Brand, R>(rt, alloc, run, plan)
 }
 
