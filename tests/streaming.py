@@ -106,6 +106,18 @@ def reader_stops(program, words, text):
     return "" if (status, lines, said) == (4, ticks(4), b"vsim: Write\n") else f"{words}: {status}, {lines!r}, {said!r}"
 
 
+def little_room(program):
+    """What is wrong where the address space has room for some of the threads' stacks and heaps, or for none."""
+    words = "--top t --stream --stop 2000000000 --workers 4"
+    ample, ends = told(program, words, HEAVY), set()
+    for size in range(8, 400, 14):
+        found = told(program, words, HEAVY, size << 20)
+        ends.add(found[0])
+        if found != ample and not (found[0] == 4 and found[2] == b"vsim: Memory\n" and ample[1].startswith(found[1])):
+            return f"{size} MiB: {found[0]}, {len(found[1])} of {len(ample[1])} bytes, {found[2]!r}"
+    return "" if ends == {0, 4} else f"statuses {ends}"
+
+
 def long_run(program):
     """What is wrong with a run of 8,000,000 cycles in address space in which its log would have no room."""
     words, most, lines = "--top t --large --stop 40000000000000", 120 << 20, 8_000_001
@@ -136,6 +148,7 @@ def main(program):
                       "--top t --stream --stop 800000000000 --limit 200000 --workers 3"):
             wrong.append(refused(program, shim, words, CLOCK))
     wrong.append(reader_stops(program, "--top t --stream --large", CLOCK))
+    wrong.append(little_room(program))
     wrong.append(long_run(program))
     for it in filter(None, wrong):
         print(f"streaming: {it}")
