@@ -2,12 +2,12 @@
 
 use crate::document::{WrittenBit, WrittenCell};
 use crate::library_cells::put_library_cell;
-use crate::nets::Nets;
+use crate::reading::Reading;
 use crate::registers::letters;
-use std::alloc::{AllocError, Global};
+use std::alloc::Global;
 use vsim_netlist_design::{
-    Bit, Control, Delays, Draft, Fault, Gate, GateCell, Level, Library, Netlist, Register, Style,
-    push,
+    Bit, Control, Delays, Draft, Fault, Gate, Level, Library, LibraryEntry, Netlist, Register,
+    Style,
 };
 
 /// Where cells are made, and the library of those that are not Yosys' own.
@@ -127,22 +127,23 @@ fn pins<'a>(cell: &'a WrittenCell, name: &str) -> Option<&'a [WrittenBit]> {
 }
 
 /// The connection of a pin of one bit.
-fn pin(alloc: Global, cell: &WrittenCell, nets: &mut Nets, name: &str) -> Result<Bit, Fault> {
+fn pin(cell: &WrittenCell, reading: &mut Reading, name: &str) -> Bit {
     match pins(cell, name) {
-        Some([bit]) => Ok(nets.bit(*bit)?),
-        _ => Err(Fault::of(alloc, &["its pin ", name, " is not connected with one bit"])),
+        Some([bit]) => reading.bit(*bit),
+        _ => {
+            reading.refuse(&["its pin ", name, " is not connected with one bit"]);
+            Bit::Constant(Level::Unknown)
+        }
     }
 }
 
 /// The net of an output.
-fn output(alloc: Global, cell: &WrittenCell, nets: &mut Nets, name: &str) -> Result<usize, Fault> {
-    match pin(alloc, cell, nets, name)? {
-        Bit::Net(place) => Ok(place),
+fn output(cell: &WrittenCell, reading: &mut Reading, name: &str) -> usize {
+    match pin(cell, reading, name) {
+        Bit::Net(place) => place,
         Bit::Constant(_) => {
-            Err(Fault::of(
-                alloc,
-                &["its output ", name, " is connected with a constant"],
-            ))
+            reading.refuse(&["its output ", name, " is connected with a constant"]);
+            0
         }
     }
 }
@@ -152,62 +153,16 @@ fn letter_at(names: &str, place: usize) -> &str {
     names.get(place..place.saturating_add(1)).unwrap_or("A")
 }
 
-/// Adds the connection of an input.
-fn put_input(
-    alloc: Global,
-    cell: &WrittenCell,
-    nets: &mut Nets,
-    bits: &mut Vec<Bit>,
-    name: &str,
-) -> Result<(), Fault> {
-    let bit = pin(alloc, cell, nets, name)?;
-    Ok(push(bits, bit)?)
-}
-
-/// The connections of a gate's inputs, each named by a letter.
-fn inputs(
-    alloc: Global,
-    cell: &WrittenCell,
-    nets: &mut Nets,
-    names: &str,
-) -> Result<Vec<Bit>, Fault> {
-    let mut bits = Vec::new(alloc);
+/// Adds a gate other than a look-up table. Its inputs are each named by a letter.
+fn put_gate(cell: &WrittenCell, reading: &mut Reading, netlist: &mut Netlist, gate: Gate) {
+    let output = output(cell, reading, "Y");
+    let mut made = reading.gate(gate, output);
+    let names = gate.pins();
     for place in 0..names.len() {
-        put_input(alloc, cell, nets, &mut bits, letter_at(names, place))?;
+        let bit = pin(cell, reading, letter_at(names, place));
+        reading.push(&mut made.inputs, bit);
     }
-    Ok(bits)
-}
-
-/// A gate of Yosys' library, with the bits of a look-up table if it is one.
-fn own_gate(
-    alloc: Global,
-    gate: Gate,
-    inputs: Vec<Bit>,
-    output: usize,
-    table: Option<String>,
-) -> GateCell {
-    GateCell {
-        gate,
-        inputs,
-        output,
-        table,
-        steps: Vec::new(alloc),
-        is_inner: false,
-        is_low: false,
-    }
-}
-
-/// Adds a gate other than a look-up table.
-fn put_gate(
-    alloc: Global,
-    cell: &WrittenCell,
-    nets: &mut Nets,
-    netlist: &mut Netlist,
-    gate: Gate,
-) -> Result<(), Fault> {
-    let output = output(alloc, cell, nets, "Y")?;
-    let inputs = inputs(alloc, cell, nets, gate.pins())?;
-    Ok(netlist.put_gate(own_gate(alloc, gate, inputs, output, None), None)?)
+    reading.put_gate(netlist, made, None);
 }
 
 /// Whether a text has only the digits 0 and 1.
@@ -234,48 +189,31 @@ fn no_table(alloc: Global) -> Fault {
 }
 
 /// The table of a cell with this number of inputs.
-fn table(alloc: Global, cell: &WrittenCell, inputs: usize) -> Result<&str, Fault> {
-    let Some(table) = cell.parameters.table.as_str() else {
-        return Err(Fault::of(alloc, &["it has no parameter LUT"]));
-    };
-    if !is_table(table, inputs) {
-        return Err(no_table(alloc));
+fn table<'a>(cell: &'a WrittenCell, reading: &mut Reading, inputs: usize) -> &'a str {
+    match cell.parameters.table.as_str() {
+        Some(table) if is_table(table, inputs) => table,
+        Some(_) => {
+            reading.fail(no_table(reading.alloc));
+            ""
+        }
+        None => {
+            reading.refuse(&["it has no parameter LUT"]);
+            ""
+        }
     }
-    Ok(table)
-}
-
-/// The look-up table with these bits.
-fn lookup_of(
-    alloc: Global,
-    nets: &mut Nets,
-    written: &[WrittenBit],
-    table: &str,
-    output: usize,
-) -> Result<GateCell, AllocError> {
-    let table = String::from_str(alloc, table)?;
-    let inputs = nets.bits(alloc, written)?;
-    Ok(own_gate(alloc, Gate::Lut, inputs, output, Some(table)))
-}
-
-/// Reads a look-up table.
-fn lookup(alloc: Global, cell: &WrittenCell, nets: &mut Nets) -> Result<GateCell, Fault> {
-    let output = output(alloc, cell, nets, "Y")?;
-    let Some(written) = pins(cell, "A") else {
-        return Err(Fault::of(alloc, &["its pin A is not connected"]));
-    };
-    let table = table(alloc, cell, written.len())?;
-    Ok(lookup_of(alloc, nets, written, table, output)?)
 }
 
 /// Adds a look-up table.
-fn put_lookup(
-    alloc: Global,
-    cell: &WrittenCell,
-    nets: &mut Nets,
-    netlist: &mut Netlist,
-) -> Result<(), Fault> {
-    let gate = lookup(alloc, cell, nets)?;
-    Ok(netlist.put_gate(gate, None)?)
+fn put_lookup(cell: &WrittenCell, reading: &mut Reading, netlist: &mut Netlist) {
+    let output = output(cell, reading, "Y");
+    let Some(written) = pins(cell, "A") else {
+        return reading.refuse(&["its pin A is not connected"]);
+    };
+    let table = table(cell, reading, written.len());
+    let mut gate = reading.gate(Gate::Lut, output);
+    gate.table = Some(reading.text(table));
+    gate.inputs = reading.bits(written);
+    reading.put_gate(netlist, gate, None);
 }
 
 /// The name of the pin for a letter.
@@ -292,116 +230,74 @@ fn pin_name(letter: u8) -> &'static str {
 /// Connects a pin of a register, given its letter and the letter in the type for it: `P` or `N`, or
 /// `1` or `0` for the reset value.
 fn connect(
-    alloc: Global,
     cell: &WrittenCell,
-    nets: &mut Nets,
+    reading: &mut Reading,
     register: &mut Register,
     letter: u8,
     given: u8,
-) -> Result<(), Fault> {
+) {
     if letter == b'v' {
-        let Some(value) = Level::from_byte(given) else {
-            return Err(Fault::of(alloc, &["its type has no such reset"]));
-        };
-        register.value = value;
-        return Ok(());
+        match Level::from_byte(given) {
+            Some(value) => register.value = value,
+            None => reading.refuse(&["its type has no such reset"]),
+        }
+    } else if given == b'P' || given == b'N' {
+        let bit = pin(cell, reading, pin_name(letter));
+        let is_high = given == b'P';
+        register.connect(letter, Control { bit, is_high });
+    } else {
+        reading.refuse(&["a gate that this program does not know"]);
     }
-    if given != b'P' && given != b'N' {
-        return Err(Fault::of(alloc, &["a gate that this program does not know"]));
-    }
-    let bit = pin(alloc, cell, nets, pin_name(letter))?;
-    let is_high = given == b'P';
-    register.connect(letter, Control { bit, is_high });
-    Ok(())
 }
 
-/// Connects the pins of a register, given their letters and those in its type.
-fn connect_all(
-    alloc: Global,
-    cell: &WrittenCell,
-    nets: &mut Nets,
-    register: &mut Register,
-    pins: &[u8],
-    given: &[u8],
-) -> Result<(), Fault> {
-    for (letter, given) in pins.iter().zip(given.iter()) {
-        connect(alloc, cell, nets, register, *letter, *given)?;
+/// Connects the data input of a register.
+fn connect_data(cell: &WrittenCell, reading: &mut Reading, register: &mut Register) {
+    if register.style != Style::Bare {
+        register.data = Some(pin(cell, reading, "D"));
     }
-    Ok(())
-}
-
-/// Connects the data input and the output of a register.
-fn connect_data(
-    alloc: Global,
-    cell: &WrittenCell,
-    nets: &mut Nets,
-    register: &mut Register,
-) -> Result<(), Fault> {
-    if register.style == Style::Bare {
-        return Ok(());
-    }
-    register.data = Some(pin(alloc, cell, nets, "D")?);
     if register.style == Style::Loaded {
-        register.loaded = Some(pin(alloc, cell, nets, "AD")?);
+        register.loaded = Some(pin(cell, reading, "AD"));
     }
-    Ok(())
 }
 
 /// Reads a register, given the letters of its pins and those in its type.
 fn register(
-    alloc: Global,
     cell: &WrittenCell,
-    nets: &mut Nets,
+    reading: &mut Reading,
     given: &str,
     pins: &str,
     style: Style,
-) -> Result<Register, Fault> {
-    let output = output(alloc, cell, nets, "Q")?;
+) -> Register {
+    let output = output(cell, reading, "Q");
     let mut register = Register::new(style, output);
-    connect_all(
-        alloc,
-        cell,
-        nets,
-        &mut register,
-        pins.as_bytes(),
-        given.as_bytes(),
-    )?;
-    connect_data(alloc, cell, nets, &mut register)?;
-    Ok(register)
+    for (letter, given) in pins.as_bytes().iter().zip(given.as_bytes().iter()) {
+        connect(cell, reading, &mut register, *letter, *given);
+    }
+    connect_data(cell, reading, &mut register);
+    register
 }
 
 /// Adds a register, which begins with a level if that is given.
-fn put_register(
-    site: Site<'_>,
-    nets: &mut Nets,
-    netlist: &mut Netlist,
-    register: &Register,
-) -> Result<(), Fault> {
+fn put_register(site: Site<'_>, reading: &mut Reading, netlist: &mut Netlist, register: &Register) {
     if let Some(level) = site.initial {
-        nets.set_initial(register.output, level);
+        reading.set_initial(register.output, level);
     }
-    Ok(netlist.put_register(register)?)
+    if netlist.put_register(register).is_err() {
+        reading.lack();
+    }
 }
 
 /// Adds a cell of Yosys' library, unless it has no effect in a simulation.
-fn put_own_cell(
-    site: Site<'_>,
-    cell: &WrittenCell,
-    nets: &mut Nets,
-    netlist: &mut Netlist,
-) -> Result<(), Fault> {
-    let (alloc, kind) = (site.alloc, cell.kind.as_str());
+fn put_own_cell(site: Site<'_>, cell: &WrittenCell, reading: &mut Reading, netlist: &mut Netlist) {
+    let kind = cell.kind.as_str();
     match kind_of(kind) {
-        Kind::Note => Ok(()),
-        Kind::Other => {
-            let told = advice(kind, !site.library.is_empty());
-            Err(Fault::of(alloc, &[told]))
-        }
-        Kind::Gate(Gate::Lut) => put_lookup(alloc, cell, nets, netlist),
-        Kind::Gate(gate) => put_gate(alloc, cell, nets, netlist, gate),
+        Kind::Note => {}
+        Kind::Other => reading.refuse(&[advice(kind, !site.library.is_empty())]),
+        Kind::Gate(Gate::Lut) => put_lookup(cell, reading, netlist),
+        Kind::Gate(gate) => put_gate(cell, reading, netlist, gate),
         Kind::Register(given, pins, style) => {
-            let register = register(alloc, cell, nets, given, pins, style)?;
-            put_register(site, nets, netlist, &register)
+            let register = register(cell, reading, given, pins, style);
+            put_register(site, reading, netlist, &register);
         }
     }
 }
@@ -411,11 +307,14 @@ pub(crate) fn put_cell(
     site: Site<'_>,
     name: &str,
     cell: &WrittenCell,
-    nets: &mut Nets,
+    reading: &mut Reading,
     netlist: &mut Netlist,
-) -> Result<(), Fault> {
+) {
     match site.library.find(cell.kind.as_str()) {
-        Some(entry) => put_library_cell(site, name, cell, nets, netlist, entry),
-        None => put_own_cell(site, cell, nets, netlist),
+        Some(LibraryEntry::Known(model)) => {
+            put_library_cell(site, name, cell, reading, netlist, model);
+        }
+        Some(LibraryEntry::Refused(told)) => reading.refuse(&[told.as_str()]),
+        None => put_own_cell(site, cell, reading, netlist),
     }
 }

@@ -1,10 +1,8 @@
 //! Registers that read inputs a delta cycle after those have changed: what changes with their clock
 //! comes after its edge.
 
-use crate::library_cells::buffer;
-use crate::nets::Nets;
-use std::alloc::{AllocError, Global};
-use vsim_netlist_design::{Bit, Cell, Control, Netlist, Port, Register, Style, push};
+use crate::reading::Reading;
+use vsim_netlist_design::{Bit, Cell, Control, Netlist, Port, Register, Style};
 
 /// What a net is: an input, one that another net follows, or none.
 #[derive(Clone, Copy)]
@@ -15,11 +13,22 @@ enum Role {
 }
 
 /// The nets of a netlist, and the buffers that follow inputs.
-#[derive(Drop)]
 struct LateInputs<'a> {
-    alloc: Global,
+    reading: &'a mut Reading,
     roles: Vec<Role>,
     buffers: &'a mut Vec<Cell>,
+}
+
+/// Written by hand so that code which drops it needs no proof about its contents.
+impl Drop for LateInputs<'_> {
+    fn drop(self) {
+        let LateInputs {
+            reading: _,
+            roles,
+            buffers: _,
+        } = self;
+        drop(roles);
+    }
 }
 
 /// Marks the bits of an input.
@@ -34,14 +43,15 @@ fn mark_input(roles: &mut Vec<Role>, port: &Port) {
 }
 
 /// The roles of nets, by their indices, as far as they are known from the ports.
-fn roles(alloc: Global, ports: &[Port], count: usize) -> Result<Vec<Role>, AllocError> {
-    let mut roles = vec![in alloc; Role::Inner; count]?;
+fn roles(reading: &mut Reading, ports: &[Port]) -> Vec<Role> {
+    let (alloc, count) = (reading.alloc, reading.count());
+    let mut roles = reading.made(vec![in alloc; Role::Inner; count], Vec::new(alloc));
     for port in ports {
         if port.is_input {
             mark_input(&mut roles, port);
         }
     }
-    Ok(roles)
+    roles
 }
 
 /// Whether a reset or a set has an effect at the edges of the clock alone.
@@ -50,93 +60,76 @@ fn is_synchronous(style: Style) -> bool {
 }
 
 impl LateInputs<'_> {
-    /// Adds a buffer from one net to another.
-    fn put_buffer(&mut self, from: usize, to: usize) -> Result<(), AllocError> {
-        let buffer = buffer(self.alloc, from, to)?;
-        push(self.buffers, Cell::Gate(buffer))
-    }
-
-    /// Adds the net that follows an input.
-    fn follow(&mut self, nets: &mut Nets, place: usize) -> Result<Bit, AllocError> {
-        let late = nets.add()?;
-        self.put_buffer(place, late)?;
+    /// Adds the net that follows an input, and the buffer to it.
+    fn follow(&mut self, place: usize) -> Bit {
+        let late = self.reading.add();
+        let buffer = self.reading.buffer(place, late);
+        self.reading.push(self.buffers, Cell::Gate(buffer));
         if let Some(role) = self.roles.get_mut(place) {
             *role = Role::Followed(late);
         }
-        Ok(Bit::Net(late))
+        Bit::Net(late)
     }
 
     /// The bit in place of one that a register reads.
-    fn bit(&mut self, nets: &mut Nets, bit: Bit) -> Result<Bit, AllocError> {
+    fn bit(&mut self, bit: Bit) -> Bit {
         let Bit::Net(place) = bit else {
-            return Ok(bit);
+            return bit;
         };
         match self.roles.get(place) {
-            Some(Role::Input) => self.follow(nets, place),
-            Some(Role::Followed(late)) => Ok(Bit::Net(*late)),
-            _ => Ok(bit),
+            Some(Role::Input) => self.follow(place),
+            Some(Role::Followed(late)) => Bit::Net(*late),
+            _ => bit,
         }
     }
 
     /// The control in place of one that a register reads.
-    fn control(
-        &mut self,
-        nets: &mut Nets,
-        control: Option<Control>,
-    ) -> Result<Option<Control>, AllocError> {
-        let Some(Control { bit, is_high }) = control else {
-            return Ok(None);
-        };
-        let bit = self.bit(nets, bit)?;
-        Ok(Some(Control { bit, is_high }))
+    fn control(&mut self, control: Option<Control>) -> Option<Control> {
+        match control {
+            Some(Control { bit, is_high }) => {
+                let bit = self.bit(bit);
+                Some(Control { bit, is_high })
+            }
+            None => None,
+        }
     }
 
-    /// Lets a register read its data and its enable late.
-    fn take_data(&mut self, nets: &mut Nets, register: &mut Register) -> Result<(), AllocError> {
+    /// Lets a register read late what has an effect at edges of its clock alone: its data, its
+    /// enable, and perhaps what resets and sets it.
+    fn take(&mut self, register: &mut Register) {
         if let Some(data) = register.data {
-            register.data = Some(self.bit(nets, data)?);
+            register.data = Some(self.bit(data));
         }
-        register.enable = self.control(nets, register.enable)?;
-        Ok(())
-    }
-
-    /// Lets a register with a clock read late what has an effect at its edges alone.
-    fn take(&mut self, nets: &mut Nets, register: &mut Register) -> Result<(), AllocError> {
-        if register.clock.is_none() {
-            return Ok(());
-        }
-        self.take_data(nets, register)?;
+        register.enable = self.control(register.enable);
         if is_synchronous(register.style) {
-            register.reset = self.control(nets, register.reset)?;
-            register.set = self.control(nets, register.set)?;
+            register.reset = self.control(register.reset);
+            register.set = self.control(register.set);
         }
-        Ok(())
     }
 
-    /// Lets all registers read inputs late.
-    fn take_all(&mut self, nets: &mut Nets, cells: &mut [Cell]) -> Result<(), AllocError> {
+    /// Lets all registers with a clock read inputs late.
+    fn take_all(&mut self, cells: &mut [Cell]) {
         for cell in cells.iter_mut() {
-            if let Cell::Register(register) = cell {
-                self.take(nets, register)?;
+            match cell {
+                Cell::Register(register) if register.clock.is_some() => self.take(register),
+                _ => {}
             }
         }
-        Ok(())
     }
 }
 
 /// Lets the registers of a netlist read inputs a delta cycle later: their data, and what else has an
 /// effect at edges of their clock alone. The buffers for it are added to these.
 pub(crate) fn read_inputs_late(
-    alloc: Global,
-    nets: &mut Nets,
+    reading: &mut Reading,
     netlist: &mut Netlist,
     buffers: &mut Vec<Cell>,
-) -> Result<(), AllocError> {
-    let roles = roles(alloc, netlist.ports.as_slice(), nets.count())?;
+) {
+    let roles = roles(reading, netlist.ports.as_slice());
     let mut late = LateInputs {
-        alloc,
+        reading,
         roles,
         buffers,
     };
-    late.take_all(nets, netlist.cells.as_mut_slice())
+    late.take_all(netlist.cells.as_mut_slice());
 }

@@ -8,9 +8,9 @@ mod library_cells;
 mod logic;
 mod modules;
 mod names;
-mod nets;
 mod object;
 mod pins;
+mod reading;
 mod registers;
 mod timings;
 

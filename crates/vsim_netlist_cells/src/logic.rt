@@ -1,8 +1,8 @@
 //! What the logic of a library's cell says of its gates and registers.
 
-use std::alloc::AllocError;
+use crate::reading::Reading;
 use vsim_netlist_design::{
-    Conflict, Function, Gate, Level, LibraryPin, LibraryState, Source, Step, Style, Variant, push,
+    Conflict, Function, Gate, Level, LibraryPin, LibraryState, Source, Step, Style, Variant,
 };
 
 /// The level of a constant, or its negation.
@@ -51,12 +51,13 @@ pub(crate) fn is_variable(pin: &LibraryPin, variant: Variant) -> bool {
 }
 
 /// The steps of a function, or of its negation.
-pub(crate) fn steps_of(function: &Function, is_negated: bool) -> Result<Vec<Step>, AllocError> {
-    let mut steps = function.steps.clone()?;
+pub(crate) fn steps_of(reading: &mut Reading, function: &Function, is_negated: bool) -> Vec<Step> {
+    let none = Vec::new(reading.alloc);
+    let mut steps = reading.made(function.steps.clone(), none);
     if is_negated && !steps.is_empty() {
-        push(&mut steps, Step::Not)?;
+        reading.push(&mut steps, Step::Not);
     }
-    Ok(steps)
+    steps
 }
 
 /// The gate of a function, or of its negation.

@@ -4,11 +4,9 @@ use crate::document::{Document, Members, Module, WrittenCell, WrittenName, Writt
 use crate::kinds::{Site, put_cell};
 use crate::late_inputs::read_inputs_late;
 use crate::names::Names;
-use crate::nets::Nets;
+use crate::reading::Reading;
 use std::alloc::{AllocError, Global};
-use vsim_netlist_design::{
-    Cell, Delays, Draft, Fault, Level, Library, Netlist, Port, Timing, Variable, push,
-};
+use vsim_netlist_design::{Delays, Draft, Fault, Level, Library, Netlist, Port, Timing, Variable};
 
 /// Whether a module is marked as the top.
 fn is_top(module: &Module) -> bool {
@@ -44,123 +42,70 @@ pub(crate) fn wanted<'a>(
     }
 }
 
-/// Refuses a name that is there already, and notes it otherwise. `what` says whose name it is.
-fn note(alloc: Global, names: &mut Names, name: &String, what: &str) -> Result<(), Fault> {
-    if !names.add(name)? {
-        return Err(Fault::of(alloc, &[what, " is there twice"]));
-    }
-    Ok(())
-}
-
 /// Whether a port is an input.
-fn is_input(alloc: Global, name: &str, written: &WrittenPort) -> Result<bool, Fault> {
+fn is_input(reading: &mut Reading, name: &str, written: &WrittenPort) -> bool {
     match written.direction.as_str() {
-        "input" | "inout" => Ok(true),
-        "output" => Ok(false),
-        _ => Err(Fault::of(alloc, &["port ", name, " has no direction"])),
+        "input" | "inout" => true,
+        "output" => false,
+        _ => {
+            reading.refuse(&["port ", name, " has no direction"]);
+            false
+        }
     }
-}
-
-/// Reads a port.
-fn make_port(
-    alloc: Global,
-    nets: &mut Nets,
-    name: &str,
-    written: &WrittenPort,
-) -> Result<Port, Fault> {
-    let is_input = is_input(alloc, name, written)?;
-    let bits = nets.bits(alloc, written.bits.as_slice())?;
-    let name = String::from_str(alloc, name)?;
-    Ok(Port {
-        name,
-        is_input,
-        bits,
-    })
 }
 
 /// Adds a port.
-fn put_port(
-    alloc: Global,
-    nets: &mut Nets,
-    ports: &mut Vec<Port>,
-    name: &str,
-    written: &WrittenPort,
-) -> Result<(), Fault> {
-    let port = make_port(alloc, nets, name, written)?;
-    Ok(push(ports, port)?)
+fn put_port(reading: &mut Reading, ports: &mut Vec<Port>, name: &str, written: &WrittenPort) {
+    let is_input = is_input(reading, name, written);
+    let bits = reading.bits(written.bits.as_slice());
+    let name = reading.text(name);
+    let port = Port {
+        name,
+        is_input,
+        bits,
+    };
+    reading.push(ports, port);
 }
 
 /// Adds the ports of a module.
-fn put_ports(
-    alloc: Global,
-    nets: &mut Nets,
-    ports: &mut Vec<Port>,
-    written: &Members<WrittenPort>,
-) -> Result<(), Fault> {
-    let mut names = Names::new(alloc);
-    put_each_port(alloc, nets, ports, &mut names, written)
-}
-
-/// Adds ports whose names are not among these, and notes their names.
-fn put_each_port(
-    alloc: Global,
-    nets: &mut Nets,
-    ports: &mut Vec<Port>,
-    names: &mut Names,
-    written: &Members<WrittenPort>,
-) -> Result<(), Fault> {
+fn put_ports(reading: &mut Reading, ports: &mut Vec<Port>, written: &Members<WrittenPort>) {
+    let mut names = Names::new(reading.alloc);
     for (name, written) in written.entries.iter() {
-        note(alloc, names, name, name.as_str())?;
-        put_port(alloc, nets, ports, name.as_str(), written)?;
+        if names.add(reading, name.as_str()) {
+            reading.refuse(&[name.as_str(), " is there twice"]);
+        }
+        if reading.has_fault() {
+            break;
+        }
+        put_port(reading, ports, name.as_str(), written);
     }
-    Ok(())
 }
 
-/// A fault of a cell after its place in the source, or after its name if that is not known.
-fn about_cell(alloc: Global, fault: Fault, name: &str, written: &WrittenCell) -> Fault {
+/// Puts the place of a cell in the source before a fault of it, or its name if that is not known.
+fn tell_cell(reading: &mut Reading, name: &str, written: &WrittenCell) {
     let kind = written.kind.as_str();
     match written.attributes.src.as_str() {
-        Some(src) => fault.about(alloc, &[src, ": cell ", kind]),
-        None => fault.about(alloc, &["cell ", name, " of type ", kind]),
-    }
-}
-
-/// Adds the gates and registers that make up a cell. The error names its place in the source.
-fn put_placed_cell(
-    site: Site<'_>,
-    nets: &mut Nets,
-    netlist: &mut Netlist,
-    name: &str,
-    written: &WrittenCell,
-) -> Result<(), Fault> {
-    match put_cell(site, name, written, nets, netlist) {
-        Ok(()) => Ok(()),
-        Err(fault) => Err(about_cell(site.alloc, fault, name, written)),
+        Some(src) => reading.about(&[src, ": cell ", kind]),
+        None => reading.about(&["cell ", name, " of type ", kind]),
     }
 }
 
 /// The name of a cell, after its place in the source if that is known.
-fn origin(alloc: Global, name: &str, written: &WrittenCell) -> Result<String, AllocError> {
-    let mut origin = Draft::new(alloc);
+fn origin(reading: &mut Reading, name: &str, written: &WrittenCell) -> String {
+    let mut origin = Draft::new(reading.alloc);
     if let Some(src) = written.attributes.src.as_str() {
         origin.push_all(&[src, ": "]);
     }
     origin.push_all(&["cell ", name]);
-    origin.finish()
+    reading.whole(origin)
 }
 
-/// Adds the origin of a cell.
-fn put_origin(origins: &mut Vec<String>, origin: &String) -> Result<(), AllocError> {
-    let copy = origin.clone()?;
-    push(origins, copy)
-}
-
-/// Adds the origin of the cells that make up one, for each of them.
-fn put_origins(origins: &mut Vec<String>, origin: &String, count: usize) -> Result<(), AllocError> {
-    for _ in 0..count {
-        put_origin(origins, origin)?;
+/// Adds the origin of the cells that make up one, until there is one for each cell.
+fn put_origins(reading: &mut Reading, netlist: &mut Netlist, origin: &str) {
+    for _ in netlist.origins.len()..netlist.cells.len() {
+        let copy = reading.text(origin);
+        reading.push(&mut netlist.origins, copy);
     }
-    Ok(())
 }
 
 /// Notes that a cell has the name of an instance of which a file has delays, if it has.
@@ -174,182 +119,134 @@ fn note_instance(site: Site<'_>, netlist: &mut Netlist, name: &str) {
     }
 }
 
-/// Adds the gates and registers that make up a cell, none if that has no effect in a simulation.
-fn put_parts_of_cell(
+/// Adds a cell whose name is new: the gates and registers that make it up, none if it has no effect
+/// in a simulation.
+fn put_new_cell(
     site: Site<'_>,
-    nets: &mut Nets,
+    reading: &mut Reading,
     netlist: &mut Netlist,
     name: &str,
     written: &WrittenCell,
-    origin: &String,
-) -> Result<(), Fault> {
-    let before = netlist.cells.len();
-    put_placed_cell(site, nets, netlist, name, written)?;
-    let count = netlist.cells.len().saturating_sub(before);
-    Ok(put_origins(&mut netlist.origins, origin, count)?)
-}
-
-/// Adds a cell whose name is not among these, and notes its name.
-fn put_new_cell(
-    site: Site<'_>,
-    nets: &mut Nets,
-    netlist: &mut Netlist,
-    names: &mut Names,
-    name: &String,
-    written: &WrittenCell,
-) -> Result<(), Fault> {
-    let origin = origin(site.alloc, name.as_str(), written)?;
-    note(site.alloc, names, name, origin.as_str())?;
-    note_instance(site, netlist, name.as_str());
-    put_parts_of_cell(site, nets, netlist, name.as_str(), written, &origin)
-}
-
-/// Adds cells whose names are not among these, and notes their names.
-fn put_each_cell(
-    site: Site<'_>,
-    nets: &mut Nets,
-    netlist: &mut Netlist,
-    names: &mut Names,
-    written: &Members<WrittenCell>,
-) -> Result<(), Fault> {
-    for (name, written) in written.entries.iter() {
-        put_new_cell(site, nets, netlist, names, name, written)?;
-    }
-    Ok(())
+    origin: &str,
+) {
+    note_instance(site, netlist, name);
+    put_cell(site, name, written, reading, netlist);
+    tell_cell(reading, name, written);
+    put_origins(reading, netlist, origin);
 }
 
 /// Adds the cells of a module.
 fn put_cells(
     site: Site<'_>,
-    nets: &mut Nets,
+    reading: &mut Reading,
     netlist: &mut Netlist,
     written: &Members<WrittenCell>,
-) -> Result<(), Fault> {
+) {
     let mut names = Names::new(site.alloc);
-    put_each_cell(site, nets, netlist, &mut names, written)
+    for (name, written) in written.entries.iter() {
+        let origin = origin(reading, name.as_str(), written);
+        if names.add(reading, name.as_str()) {
+            reading.refuse(&[origin.as_str(), " is there twice"]);
+        }
+        if reading.has_fault() {
+            break;
+        }
+        put_new_cell(
+            site,
+            reading,
+            netlist,
+            name.as_str(),
+            written,
+            origin.as_str(),
+        );
+    }
 }
 
 /// Notes the names of ports with a dot. They are escaped names, as a port is in no scope.
-fn note_escaped(names: &mut Names, ports: &Members<WrittenPort>) -> Result<(), AllocError> {
+fn note_escaped(reading: &mut Reading, names: &mut Names, ports: &Members<WrittenPort>) {
     for (name, _written) in ports.entries.iter() {
         if name.as_str().contains('.') {
-            let _ = names.add(name)?;
+            let _ = names.add(reading, name.as_str());
         }
     }
-    Ok(())
 }
 
 /// A name of the source, after a backslash if it is an escaped one with a dot.
-fn source_name(alloc: Global, escaped: &Names, name: &str) -> Result<String, AllocError> {
-    let mut text = Draft::new(alloc);
+fn source_name(reading: &mut Reading, escaped: &Names, name: &str) -> String {
+    let mut text = Draft::new(reading.alloc);
     if escaped.has(name) {
         text.push("\\");
     }
     text.push(name);
-    text.finish()
+    reading.whole(text)
 }
 
-/// Adds a name of the source, if it is one.
+/// Takes a name: the initial levels of its nets and, if it is from the source, the variable.
 fn put_variable(
-    alloc: Global,
-    nets: &mut Nets,
+    reading: &mut Reading,
     variables: &mut Vec<Variable>,
     escaped: &Names,
     name: &str,
     written: &WrittenName,
-) -> Result<(), AllocError> {
-    let name = source_name(alloc, escaped, name)?;
-    match nets.take_name(alloc, name.as_str(), written)? {
-        Some(variable) => push(variables, variable),
-        None => Ok(()),
+) {
+    let bits = reading.bits(written.bits.as_slice());
+    if let Some(levels) = written.attributes.init.as_str() {
+        reading.begin_all(bits.as_slice(), levels);
     }
-}
-
-/// Adds the source's names of nets, given the names that are escaped.
-fn put_each_variable(
-    alloc: Global,
-    nets: &mut Nets,
-    variables: &mut Vec<Variable>,
-    escaped: &Names,
-    written: &Members<WrittenName>,
-) -> Result<(), AllocError> {
-    for (name, written) in written.entries.iter() {
-        put_variable(alloc, nets, variables, escaped, name.as_str(), written)?;
+    if written.hide_name != 0 {
+        return;
     }
-    Ok(())
+    reading.name_all(bits.as_slice());
+    let name = source_name(reading, escaped, name);
+    let variable = Variable {
+        name,
+        bits,
+        offset: written.offset,
+        is_up: written.upto != 0,
+    };
+    reading.push(variables, variable);
 }
 
 /// Adds the source's names of nets.
-pub(crate) fn put_variables(
-    alloc: Global,
-    nets: &mut Nets,
-    variables: &mut Vec<Variable>,
-    module: &Module,
-) -> Result<(), AllocError> {
-    let mut escaped = Names::new(alloc);
-    note_escaped(&mut escaped, &module.ports)?;
-    put_each_variable(alloc, nets, variables, &escaped, &module.netnames)
+pub(crate) fn put_variables(reading: &mut Reading, variables: &mut Vec<Variable>, module: &Module) {
+    let mut escaped = Names::new(reading.alloc);
+    note_escaped(reading, &mut escaped, &module.ports);
+    for (name, written) in module.netnames.entries.iter() {
+        if reading.has_fault() {
+            break;
+        }
+        put_variable(reading, variables, &escaped, name.as_str(), written);
+    }
 }
 
 /// Lets registers read inputs a delta cycle later, if cells have delays of a file.
-fn put_late_inputs(site: Site<'_>, nets: &mut Nets, netlist: &mut Netlist) -> Result<(), Fault> {
-    if site.delays.is_none() {
-        return Ok(());
+fn put_late_inputs(reading: &mut Reading, netlist: &mut Netlist) {
+    let mut buffers = Vec::new(reading.alloc);
+    read_inputs_late(reading, netlist, &mut buffers);
+    put_untimed(reading, &mut netlist.timings, buffers.len());
+    if netlist.cells.append(&mut buffers).is_err() {
+        reading.lack();
     }
-    let mut buffers = Vec::new(site.alloc);
-    read_inputs_late(site.alloc, nets, netlist, &mut buffers)?;
-    Ok(put_buffers(site.alloc, netlist, &mut buffers)?)
-}
-
-/// Adds the buffers by which registers read inputs late.
-fn put_buffers(
-    alloc: Global,
-    netlist: &mut Netlist,
-    buffers: &mut Vec<Cell>,
-) -> Result<(), AllocError> {
-    let origin = String::from_str(alloc, "an input")?;
-    put_origins(&mut netlist.origins, &origin, buffers.len())?;
-    put_untimed(&mut netlist.timings, buffers.len())?;
-    netlist.cells.append(buffers)
+    put_origins(reading, netlist, "an input");
 }
 
 /// Adds the delays of this number of cells without any.
-fn put_untimed(timings: &mut Vec<Option<Timing>>, count: usize) -> Result<(), AllocError> {
+fn put_untimed(reading: &mut Reading, timings: &mut Vec<Option<Timing>>, count: usize) {
     for _ in 0..count {
-        push(timings, None)?;
+        reading.push(timings, None);
     }
-    Ok(())
 }
 
-/// Adds the ports and cells of a module.
-fn put_parts(
-    site: Site<'_>,
-    nets: &mut Nets,
-    netlist: &mut Netlist,
-    module: &Module,
-) -> Result<(), Fault> {
-    put_ports(site.alloc, nets, &mut netlist.ports, &module.ports)?;
-    put_cells(site, nets, netlist, &module.cells)
-}
-
-/// Adds all parts of a module, with their nets.
-fn put_all(
-    site: Site<'_>,
-    nets: &mut Nets,
-    netlist: &mut Netlist,
-    module: &Module,
-) -> Result<(), Fault> {
-    put_parts(site, nets, netlist, module)?;
-    put_variables(site.alloc, nets, &mut netlist.variables, module)?;
-    put_late_inputs(site, nets, netlist)
-}
-
-/// Adds all parts of a module, and its nets.
-fn put_module(site: Site<'_>, netlist: &mut Netlist, module: &Module) -> Result<(), Fault> {
-    let mut nets = Nets::new(site.alloc);
-    put_all(site, &mut nets, netlist, module)?;
-    netlist.nets = nets.into_list();
-    Ok(())
+/// Adds all parts of a module.
+fn put_all(site: Site<'_>, reading: &mut Reading, netlist: &mut Netlist, module: &Module) {
+    put_ports(reading, &mut netlist.ports, &module.ports);
+    if !reading.has_fault() {
+        put_cells(site, reading, netlist, &module.cells);
+    }
+    put_variables(reading, &mut netlist.variables, module);
+    if site.delays.is_some() && !reading.has_fault() {
+        put_late_inputs(reading, netlist);
+    }
 }
 
 /// The number of instances of which a file has delays.
@@ -370,7 +267,9 @@ fn empty_netlist(site: Site<'_>, name: &str) -> Result<Netlist, AllocError> {
 /// Reads the netlist of a module.
 fn make_netlist(site: Site<'_>, name: &str, module: &Module) -> Result<Netlist, Fault> {
     let mut netlist = empty_netlist(site, name)?;
-    put_module(site, &mut netlist, module)?;
+    let mut reading = Reading::new(site.alloc);
+    put_all(site, &mut reading, &mut netlist, module);
+    netlist.nets = reading.finish()?;
     Ok(netlist)
 }
 

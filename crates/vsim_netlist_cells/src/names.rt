@@ -1,6 +1,7 @@
 //! Sets of names.
 
-use std::alloc::{AllocError, Global};
+use crate::reading::Reading;
+use std::alloc::Global;
 use std::collections::HashSet;
 
 /// Names without repetition.
@@ -24,9 +25,16 @@ impl Names {
         }
     }
 
-    /// Adds a name, and returns whether it was not there yet.
-    pub(crate) fn add(&mut self, name: &String) -> Result<bool, AllocError> {
-        Ok(self.known.insert(name.clone()?)?)
+    /// Adds a name, and returns whether it was there.
+    pub(crate) fn add(&mut self, reading: &mut Reading, name: &str) -> bool {
+        let name = reading.text(name);
+        match self.known.insert(name) {
+            Ok(is_new) => !is_new,
+            Err(_lack) => {
+                reading.lack();
+                false
+            }
+        }
     }
 
     /// Whether a name is there.

@@ -2,10 +2,10 @@
 
 use crate::document::{Members, Module, WrittenBit, WrittenCell};
 use crate::modules::{put_variables, read_document, wanted};
-use crate::nets::Nets;
-use std::alloc::{AllocError, Global};
+use crate::reading::Reading;
+use std::alloc::Global;
 use std::collections::HashMap;
-use vsim_netlist_design::{Bit, Fault, Variable, push};
+use vsim_netlist_design::{Bit, Fault, Variable};
 
 /// A pin of a cell, and the bit that it is connected with; `None` if these are several, or none.
 #[derive(Drop)]
@@ -79,108 +79,63 @@ impl Connections {
     }
 
     /// Notes the index of the last cell by its name. A name that several have leads to the last.
-    fn note(&mut self, name: &String) -> Result<(), AllocError> {
-        let name = name.clone()?;
+    fn note(&mut self, reading: &mut Reading, name: &str) {
         let place = self.instances.len().saturating_sub(1);
-        self.places.insert(name, place)?;
-        Ok(())
+        let name = reading.text(name);
+        if self.places.insert(name, place).is_err() {
+            reading.lack();
+        }
     }
 }
 
 /// The bit of a pin, if it is one.
-fn only_bit(nets: &mut Nets, written: &[WrittenBit]) -> Result<Option<Bit>, AllocError> {
+fn only_bit(reading: &mut Reading, written: &[WrittenBit]) -> Option<Bit> {
     match written {
-        [bit] => Ok(Some(nets.bit(*bit)?)),
-        _ => Ok(None),
+        [bit] => Some(reading.bit(*bit)),
+        _ => None,
     }
 }
 
-/// Reads a pin.
-fn make_pin(nets: &mut Nets, name: &String, written: &[WrittenBit]) -> Result<Pin, AllocError> {
-    let bit = only_bit(nets, written)?;
-    let name = name.clone()?;
-    Ok(Pin { name, bit })
-}
-
-/// Reads the pins of a cell.
-fn make_pins(
-    alloc: Global,
-    nets: &mut Nets,
-    written: &Members<Vec<WrittenBit>>,
-) -> Result<Vec<Pin>, AllocError> {
-    let mut pins = Vec::new(alloc);
+/// Adds the pins of a cell.
+fn put_pins(reading: &mut Reading, pins: &mut Vec<Pin>, written: &Members<Vec<WrittenBit>>) {
     for (name, bits) in written.entries.iter() {
-        push(&mut pins, make_pin(nets, name, bits.as_slice())?)?;
+        let bit = only_bit(reading, bits.as_slice());
+        let name = reading.text(name.as_str());
+        reading.push(pins, Pin { name, bit });
     }
-    Ok(pins)
-}
-
-/// Reads a cell.
-fn make_instance(
-    alloc: Global,
-    nets: &mut Nets,
-    name: &String,
-    written: &WrittenCell,
-) -> Result<Instance, AllocError> {
-    let pins = make_pins(alloc, nets, &written.connections)?;
-    let name = name.clone()?;
-    let kind = written.kind.clone()?;
-    Ok(Instance { name, kind, pins })
-}
-
-/// Adds a cell.
-fn put_instance(
-    alloc: Global,
-    nets: &mut Nets,
-    connections: &mut Connections,
-    name: &String,
-    written: &WrittenCell,
-) -> Result<(), AllocError> {
-    let instance = make_instance(alloc, nets, name, written)?;
-    push(&mut connections.instances, instance)?;
-    connections.note(name)
 }
 
 /// Adds the cells of a module.
 fn put_instances(
-    alloc: Global,
-    nets: &mut Nets,
+    reading: &mut Reading,
     connections: &mut Connections,
     written: &Members<WrittenCell>,
-) -> Result<(), AllocError> {
+) {
     for (name, cell) in written.entries.iter() {
-        put_instance(alloc, nets, connections, name, cell)?;
+        if reading.has_fault() {
+            break;
+        }
+        let mut pins = Vec::new(reading.alloc);
+        put_pins(reading, &mut pins, &cell.connections);
+        let kind = reading.text(cell.kind.as_str());
+        let copy = reading.text(name.as_str());
+        let instance = Instance {
+            name: copy,
+            kind,
+            pins,
+        };
+        reading.push(&mut connections.instances, instance);
+        connections.note(reading, name.as_str());
     }
-    Ok(())
-}
-
-/// Adds the cells of a module, and the names of its nets.
-fn put_all(
-    alloc: Global,
-    nets: &mut Nets,
-    connections: &mut Connections,
-    module: &Module,
-) -> Result<(), AllocError> {
-    put_variables(alloc, nets, &mut connections.variables, module)?;
-    put_instances(alloc, nets, connections, &module.cells)?;
-    connections.nets = nets.count();
-    Ok(())
-}
-
-/// Adds the connections of a module.
-fn put_module(
-    alloc: Global,
-    connections: &mut Connections,
-    module: &Module,
-) -> Result<(), AllocError> {
-    let mut nets = Nets::new(alloc);
-    put_all(alloc, &mut nets, connections, module)
 }
 
 /// The connections of a module.
-fn make_connections(alloc: Global, module: &Module) -> Result<Connections, AllocError> {
+fn make_connections(alloc: Global, module: &Module) -> Result<Connections, Fault> {
     let mut connections = Connections::new(alloc);
-    put_module(alloc, &mut connections, module)?;
+    let mut reading = Reading::new(alloc);
+    put_variables(&mut reading, &mut connections.variables, module);
+    put_instances(&mut reading, &mut connections, &module.cells);
+    connections.nets = reading.finish()?.len();
     Ok(connections)
 }
 
@@ -193,5 +148,5 @@ pub fn read_connections(
 ) -> Result<Connections, Fault> {
     let document = read_document(alloc, text)?;
     let (_name, module) = wanted(alloc, &document, top)?;
-    Ok(make_connections(alloc, module)?)
+    make_connections(alloc, module)
 }

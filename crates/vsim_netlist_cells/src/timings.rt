@@ -1,15 +1,14 @@
 //! The delays of a cell, from those of a file.
 
-use std::alloc::{AllocError, Global};
+use crate::reading::Reading;
 use vsim_netlist_design::{
-    Arc, Arcs, Bit, Condition, DelayEntry, Delays, Edge, Fault, LibraryCell, PathCondition,
-    PathDelay, Times, Timing, When, arcs_to, fault_at, push, wire_to,
+    Arc, Arcs, Bit, Condition, DelayEntry, Delays, Edge, LibraryCell, PathCondition, PathDelay,
+    Times, Timing, When, arcs_to, fault_at, wire_to,
 };
 
 /// The delays of an instance, and the cell that it is.
 #[derive(Drop)]
 pub(crate) struct Timed<'a> {
-    alloc: Global,
     delays: &'a Delays,
     entries: Vec<DelayEntry>,
 }
@@ -30,15 +29,23 @@ fn plain(time: Option<i64>) -> Option<u64> {
 }
 
 /// A path from a net with these delays.
-fn path_from(from: usize, arc: &Arc, when: When) -> PathDelay {
+fn path_from(from: usize, edge: Edge, when: When, times: &Times) -> PathDelay {
     PathDelay {
         from,
-        edge: arc.edge,
+        edge,
         when,
-        rise: plain(arc.times.rise),
-        fall: plain(arc.times.fall),
-        off: plain(arc.times.off),
-        has_off: arc.times.has_off,
+        rise: plain(times.rise),
+        fall: plain(times.fall),
+        off: plain(times.off),
+        has_off: times.has_off,
+    }
+}
+
+/// The bit at a place, if there is one.
+fn bit_at(bits: &[Option<Bit>], place: usize) -> Option<Bit> {
+    match bits.get(place) {
+        Some(Some(bit)) => Some(*bit),
+        _ => None,
     }
 }
 
@@ -48,162 +55,146 @@ fn takes_time(times: &Times) -> bool {
 }
 
 /// Refuses delays of an instance of another kind.
-fn demand_kind(alloc: Global, delays: &Delays, instance: &str, kind: &str) -> Result<(), Fault> {
+fn demand_kind(reading: &mut Reading, delays: &Delays, instance: &str, kind: &str) {
     let Some((place, line)) = delays.instances.kind(instance) else {
-        return Ok(());
+        return;
     };
     let given = delays.kind_names.name(place);
-    if given == kind {
-        return Ok(());
+    if given != kind {
+        let fault = fault_at(reading.alloc, line, &["its CELLTYPE is \"", given, "\""]);
+        reading.fail(fault.about(reading.alloc, &["the SDF file"]));
     }
-    let fault = fault_at(alloc, line, &["its CELLTYPE is \"", given, "\""]);
-    Err(fault.about(alloc, &["the SDF file"]))
 }
 
 impl<'a> Timed<'a> {
     /// The delays of an instance of a kind.
     pub(crate) fn new(
-        alloc: Global,
+        reading: &mut Reading,
         delays: &'a Delays,
         instance: &str,
         kind: &str,
-    ) -> Result<Timed<'a>, Fault> {
-        demand_kind(alloc, delays, instance, kind)?;
-        let entries = delays.entries(alloc, instance, kind)?;
-        Ok(Timed {
-            alloc,
-            delays,
-            entries,
-        })
+    ) -> Timed<'a> {
+        demand_kind(reading, delays, instance, kind);
+        let alloc = reading.alloc;
+        let entries = reading.made(delays.entries(alloc, instance, kind), Vec::new(alloc));
+        Timed { delays, entries }
     }
 
     /// The bit of a pin, given by its index in the file; `None` if it is not connected.
-    fn bit(&self, cell: Connected<'_>, pin: usize) -> Result<Option<Bit>, Fault> {
+    fn bit(&self, reading: &mut Reading, cell: Connected<'_>, pin: usize) -> Option<Bit> {
         let name = self.delays.pins.name(pin);
-        let Some(place) = cell.model.places.get(name) else {
-            let parts = [
-                "the SDF file has a delay of its pin ",
-                name,
-                ", which is not there",
-            ];
-            return Err(Fault::of(self.alloc, parts.as_slice()));
-        };
-        match cell.bits.get(*place) {
-            Some(Some(bit)) => Ok(Some(*bit)),
-            _ => Ok(None),
-        }
-    }
-
-    /// Adds the bit of an input of a condition.
-    fn put_input(&self, bits: &mut Vec<Bit>, cell: Connected<'_>, pin: usize) -> Result<(), Fault> {
-        match self.bit(cell, pin)? {
-            Some(bit) => Ok(push(bits, bit)?),
+        match cell.model.places.get(name) {
+            Some(place) => bit_at(cell.bits, *place),
             None => {
-                let name = self.delays.pins.name(pin);
-                Err(Fault::of(self.alloc, &["its pin ", name, " is not connected"]))
+                reading.refuse(&[
+                    "the SDF file has a delay of its pin ",
+                    name,
+                    ", which is not there",
+                ]);
+                None
             }
         }
     }
 
     /// The bits of the inputs of a condition.
-    fn inputs(&self, cell: Connected<'_>, condition: &Condition) -> Result<Vec<Bit>, Fault> {
-        let mut bits = Vec::new(self.alloc);
+    fn inputs(
+        &self,
+        reading: &mut Reading,
+        cell: Connected<'_>,
+        condition: &Condition,
+    ) -> Vec<Bit> {
+        let mut bits = Vec::new(reading.alloc);
         for pin in condition.inputs.iter() {
-            self.put_input(&mut bits, cell, *pin)?;
+            match self.bit(reading, cell, *pin) {
+                Some(bit) => reading.push(&mut bits, bit),
+                None => {
+                    let name = self.delays.pins.name(*pin);
+                    reading.refuse(&["its pin ", name, " is not connected"]);
+                }
+            }
         }
-        Ok(bits)
+        bits
     }
 
-    /// Adds a condition of the file, given by its index, and returns its index here.
-    fn put_condition(
+    /// When a path has its delay. A condition of the file, given by its index, is added here.
+    fn when(
         &self,
+        reading: &mut Reading,
         timing: &mut Timing,
         cell: Connected<'_>,
-        place: usize,
-    ) -> Result<usize, Fault> {
+        when: When,
+    ) -> When {
+        let When::Holds(place) = when else {
+            return when;
+        };
         let added = timing.conditions.len();
         if let Some(condition) = self.delays.conditions.get(place) {
-            let inputs = self.inputs(cell, condition)?;
-            let steps = condition.steps.clone()?;
-            push(&mut timing.conditions, PathCondition { inputs, steps })?;
+            let inputs = self.inputs(reading, cell, condition);
+            let alloc = reading.alloc;
+            let steps = reading.made(condition.steps.clone(), Vec::new(alloc));
+            reading.push(&mut timing.conditions, PathCondition { inputs, steps });
         }
-        Ok(added)
-    }
-
-    /// When a path has its delay, by the conditions here.
-    fn when(&self, timing: &mut Timing, cell: Connected<'_>, when: When) -> Result<When, Fault> {
-        match when {
-            When::Holds(place) => Ok(When::Holds(self.put_condition(timing, cell, place)?)),
-            _ => Ok(when),
-        }
+        When::Holds(added)
     }
 
     /// Adds the paths from a pin.
     fn put_path(
         &self,
+        reading: &mut Reading,
         timing: &mut Timing,
         cell: Connected<'_>,
         arc: &Arc,
         pin: usize,
-    ) -> Result<(), Fault> {
-        let Some(Bit::Net(net)) = self.bit(cell, pin)? else {
-            return Ok(());
-        };
-        let when = self.when(timing, cell, arc.when)?;
-        Ok(push(&mut timing.paths, path_from(net, arc, when))?)
+    ) {
+        if let Some(Bit::Net(net)) = self.bit(reading, cell, pin) {
+            let when = self.when(reading, timing, cell, arc.when);
+            reading.push(
+                &mut timing.paths,
+                path_from(net, arc.edge, when, &arc.times),
+            );
+        }
     }
 
-    /// Adds the paths from all inputs.
-    fn put_paths(
+    /// Adds the delays of these paths.
+    fn put_arcs(
         &self,
+        reading: &mut Reading,
         timing: &mut Timing,
         cell: Connected<'_>,
-        arc: &Arc,
-    ) -> Result<(), AllocError> {
-        for (place, pin) in cell.model.pins.iter().enumerate() {
-            if let (false, Some(Some(Bit::Net(net)))) = (pin.is_output, cell.bits.get(place)) {
-                push(&mut timing.paths, path_from(*net, arc, arc.when))?;
+        arcs: &[Arc],
+    ) {
+        for arc in arcs {
+            match arc.from {
+                Some(pin) => self.put_path(reading, timing, cell, arc, pin),
+                None => put_paths(reading, timing, cell, arc),
             }
         }
-        Ok(())
-    }
-
-    /// Adds paths.
-    fn put_arc(&self, timing: &mut Timing, cell: Connected<'_>, arc: &Arc) -> Result<(), Fault> {
-        match arc.from {
-            Some(pin) => self.put_path(timing, cell, arc, pin),
-            None => Ok(self.put_paths(timing, cell, arc)?),
-        }
-    }
-
-    /// The delays of these paths.
-    fn timing_of(&self, cell: Connected<'_>, arcs: &[Arc]) -> Result<Timing, Fault> {
-        let mut timing = Timing {
-            paths: Vec::new(self.alloc),
-            conditions: Vec::new(self.alloc),
-        };
-        for arc in arcs {
-            self.put_arc(&mut timing, cell, arc)?;
-        }
-        Ok(timing)
     }
 
     /// The delays of the paths to an output.
-    pub(crate) fn timing(&self, cell: Connected<'_>, output: &str) -> Result<Timing, Fault> {
+    pub(crate) fn timing(
+        &self,
+        reading: &mut Reading,
+        cell: Connected<'_>,
+        output: &str,
+    ) -> Timing {
+        let alloc = reading.alloc;
+        let mut timing = Timing {
+            paths: Vec::new(alloc),
+            conditions: Vec::new(alloc),
+        };
         let place = self.delays.pins.find(output).unwrap_or(usize::MAX);
-        match arcs_to(self.alloc, self.entries.as_slice(), place)? {
-            Arcs::Known(arcs) if arcs.is_empty() => {
-                Err(Fault::of(
-                    self.alloc,
-                    &["the SDF file has no path to its output ", output],
-                ))
+        match arcs_to(alloc, self.entries.as_slice(), place) {
+            Ok(Arcs::Known(arcs)) if arcs.is_empty() => {
+                reading.refuse(&["the SDF file has no path to its output ", output]);
             }
-            Arcs::Known(arcs) => self.timing_of(cell, arcs.as_slice()),
-            Arcs::TooMany => {
-                let parts = ["the SDF file has too many paths to its output ", output];
-                Err(Fault::of(self.alloc, parts.as_slice()))
+            Ok(Arcs::Known(arcs)) => self.put_arcs(reading, &mut timing, cell, arcs.as_slice()),
+            Ok(Arcs::TooMany) => {
+                reading.refuse(&["the SDF file has too many paths to its output ", output]);
             }
+            Err(_lack) => reading.lack(),
         }
+        timing
     }
 
     /// The delays of the wire to an input, as those of a path from a net, if they take time.
@@ -213,14 +204,16 @@ impl<'a> Timed<'a> {
         if !takes_time(&times) {
             return None;
         }
-        Some(PathDelay {
-            from: net,
-            edge: Edge::Both,
-            when: When::Always,
-            rise: plain(times.rise),
-            fall: plain(times.fall),
-            off: plain(times.off),
-            has_off: times.has_off,
-        })
+        Some(path_from(net, Edge::Both, When::Always, &times))
+    }
+}
+
+/// Adds the paths from all inputs.
+fn put_paths(reading: &mut Reading, timing: &mut Timing, cell: Connected<'_>, arc: &Arc) {
+    for (place, pin) in cell.model.pins.iter().enumerate() {
+        if let (false, Some(Some(Bit::Net(net)))) = (pin.is_output, cell.bits.get(place)) {
+            let path = path_from(*net, arc.edge, arc.when, &arc.times);
+            reading.push(&mut timing.paths, path);
+        }
     }
 }
