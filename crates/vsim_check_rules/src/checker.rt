@@ -10,7 +10,7 @@ use crate::wires::{WireDelay, Wires};
 use std::alloc::{AllocError, Global};
 use vsim_netlist_design::{CheckEvent, Edge, Level, Width, Window, push};
 
-/// What an edge of a signal is for a check, given by its index among those of its kind.
+/// The part that an edge plays in a check, with the index of the check's window or pulse.
 #[derive(Clone, Copy)]
 enum Role {
     Reference(usize),
@@ -19,14 +19,14 @@ enum Role {
     End(usize),
 }
 
-/// What the edges of a signal are for a check.
+/// The edges of a signal that count in a check, and the part they play.
 #[derive(Clone, Copy)]
 struct Use {
     edge: Edge,
     role: Role,
 }
 
-/// What a signal is for checks: as a reference, and as anything else.
+/// The uses of a signal: first those as the reference of a window, then all others.
 #[derive(Drop)]
 struct Uses {
     first: Vec<Use>,

@@ -1,6 +1,6 @@
 //! Violations.
 
-/// What a violation is of.
+/// The part of a check that is violated.
 #[derive(Clone, Copy, PartialEq, Eq, PartialOrd, Ord)]
 pub enum Demand {
     /// Time before the reference of a window: setup or removal.

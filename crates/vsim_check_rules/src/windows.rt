@@ -28,7 +28,7 @@ fn age_of(limit: i64) -> u64 {
     u64::try_from(limit.saturating_neg()).unwrap_or(0)
 }
 
-/// What a check is looked at with: the present time in femtoseconds, and the levels then.
+/// The present time in femtoseconds, and the signals with their levels at that time.
 #[derive(Clone, Copy)]
 pub(crate) struct Present<'a> {
     pub(crate) now: u64,
