@@ -118,8 +118,8 @@ impl LateInputs<'_> {
     }
 }
 
-/// Lets the registers of a netlist read inputs a delta cycle later: their data, and what else has an
-/// effect at edges of their clock alone. The buffers for it are added to these.
+/// Lets the registers of a netlist read inputs a delta cycle later: their data, and what else has
+/// an effect at edges of their clock alone. Adds the buffers that this takes.
 pub(crate) fn read_inputs_late(
     reading: &mut Reading,
     netlist: &mut Netlist,

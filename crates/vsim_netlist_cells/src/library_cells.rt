@@ -339,7 +339,7 @@ impl<'a> Making<'a> {
         }
     }
 
-    /// Puts the wire to the pin at a place before it, if it takes time: a buffer with its delay.
+    /// Adds the wire to an input, the pin at a place, if it takes time: a buffer with its delay.
     fn put_wire(&mut self, timed: &Timed<'_>, place: usize, pin: &LibraryPin) {
         let from = match self.bits.get(place) {
             Some(Some(Bit::Net(net))) if !pin.is_output => *net,
@@ -360,7 +360,7 @@ impl<'a> Making<'a> {
         self.connect(place, Some(Bit::Net(end)));
     }
 
-    /// Puts wires before the inputs, if a file says that they take time.
+    /// Adds the wires to the inputs, if a file says that they take time.
     fn put_wires(&mut self, timed: &Timed<'_>) {
         let model = self.model;
         for (place, pin) in model.pins.iter().enumerate() {

@@ -81,7 +81,7 @@ fn put_ports(reading: &mut Reading, ports: &mut Vec<Port>, written: &Members<Wri
     }
 }
 
-/// Puts the place of a cell in the source before a fault of it, or its name if that is not known.
+/// Puts the place of a cell in the source before its fault, or its name if the place is not known.
 fn tell_cell(reading: &mut Reading, name: &str, written: &WrittenCell) {
     let kind = written.kind.as_str();
     match written.attributes.src.as_str() {
@@ -100,7 +100,7 @@ fn origin(reading: &mut Reading, name: &str, written: &WrittenCell) -> String {
     reading.whole(origin)
 }
 
-/// Adds the origin of the cells that make up one, until there is one for each cell.
+/// Adds this origin to each gate and register that has none yet.
 fn put_origins(reading: &mut Reading, netlist: &mut Netlist, origin: &str) {
     for _ in netlist.origins.len()..netlist.cells.len() {
         let copy = reading.text(origin);

@@ -5,8 +5,8 @@ use std::alloc::{AllocError, Global};
 use std::collections::HashMap;
 use vsim_netlist_design::{Bit, Draft, Fault, Gate, GateCell, Level, Net, Netlist, Timing, push};
 
-/// A module that is being read. If it is refused or memory runs out, the reading notes that; what
-/// reads a part goes on with any value, loops over parts end, and `finish` reports the first fault.
+/// A module that is being read, with its first fault: a refusal, or a lack of memory. Reading goes
+/// on after a fault, with values that no longer matter, and `finish` reports the fault.
 pub(crate) struct Reading {
     pub(crate) alloc: Global,
     /// The indices of nets by their numbers in the netlist. Those inside of cells have none.
@@ -79,14 +79,14 @@ impl Reading {
         self.fail(Fault::Memory);
     }
 
-    /// Puts what the fault is about before it, if there is one.
+    /// Puts these parts before the sentence of the fault, if there is one.
     pub(crate) fn about(&mut self, parts: &[&str]) {
         if let Some(fault) = self.fault.take() {
             self.fault = Some(fault.about(self.alloc, parts));
         }
     }
 
-    /// What was made, or another value if memory ran out.
+    /// Returns what was made. If memory ran out, notes that and returns the other value.
     pub(crate) fn made<T: Drop>(&mut self, made: Result<T, AllocError>, other: T) -> T {
         match made {
             Ok(made) => made,

@@ -6,7 +6,7 @@ use vsim_netlist_design::{
     Times, Timing, When, arcs_to, fault_at, wire_to,
 };
 
-/// The delays of an instance, and the cell that it is.
+/// The delays of an instance, and the file that they are from.
 #[derive(Drop)]
 pub(crate) struct Timed<'a> {
     delays: &'a Delays,
