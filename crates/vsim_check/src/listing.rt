@@ -98,10 +98,10 @@ impl<R: Read> Run<R> {
     where
         R: Drop,
     {
-        let begun = vec![in alloc; false; watched.names.all().len()]?;
+        let begun = vec![in alloc; false; watched.names.len()]?;
         Ok(Run {
             pieces,
-            lines: LineReader::new(alloc),
+            lines: LineReader::new(),
             watched,
             begun,
             from,
@@ -116,10 +116,7 @@ impl<R: Read> Run<R> {
 
     /// The name of a signal.
     pub(crate) fn name(&self, signal: usize) -> &[u8] {
-        match self.watched.names.all().get_index(signal) {
-            Some(name) => name.as_slice(),
-            None => &[],
-        }
+        self.watched.names.get(signal).unwrap_or(&[])
     }
 
     /// Goes on to the next line, which has to be there.

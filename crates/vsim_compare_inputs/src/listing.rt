@@ -63,7 +63,7 @@ impl Listing {
     pub fn new(alloc: Global, pieces: Pieces<File>) -> Listing {
         Listing {
             pieces,
-            lines: LineReader::new(alloc),
+            lines: LineReader::new(),
             is_settled: false,
             names: Names::new(alloc),
             first: Vec::new(alloc),
@@ -197,8 +197,9 @@ impl Listing {
     /// Its own nets.
     fn own(&self, alloc: Global) -> Result<Offers, AllocError> {
         let mut offers = Offers::new(alloc);
-        for (signal, name) in self.names.all().iter().enumerate() {
-            offers.offer(alloc, name.as_slice(), &[MapBit::Signal(signal)])?;
+        for signal in 0..self.names.len() {
+            let name = self.names.get(signal).unwrap_or(&[]);
+            offers.offer(alloc, name, &[MapBit::Signal(signal)])?;
         }
         Ok(offers)
     }

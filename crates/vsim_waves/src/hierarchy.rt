@@ -1,6 +1,5 @@
 //! The names of nets as the scopes and variables of a VCD.
 
-use indexmap::IndexSet;
 use std::io::{self, Write};
 
 /// The first of the bytes that make up the identifiers of a VCD, and the number of these bytes.
@@ -35,11 +34,6 @@ pub fn write_identifier<W: Write>(out: &mut W, number: usize) -> io::Result<()> 
     out.write_all(bytes.get(..end).unwrap_or(&[]))
 }
 
-/// The path of a name, which is empty at the top, and its last label.
-fn parts(name: &str) -> (&str, &str) {
-    name.rsplit_once('.').unwrap_or(("", name))
-}
-
 /// Leaves the scopes of a path that the next path does not share.
 pub fn leave<W: Write>(out: &mut W, path: &str, next: &str) -> io::Result<()> {
     let mut others = next.split('.');
@@ -54,7 +48,7 @@ pub fn leave<W: Write>(out: &mut W, path: &str, next: &str) -> io::Result<()> {
 }
 
 /// Enters the scopes of a path that the last path does not share.
-fn enter<W: Write>(out: &mut W, last: &str, path: &str) -> io::Result<()> {
+pub fn enter<W: Write>(out: &mut W, last: &str, path: &str) -> io::Result<()> {
     let mut others = last.split('.');
     let mut is_shared = true;
     for label in path.split('.') {
@@ -67,7 +61,7 @@ fn enter<W: Write>(out: &mut W, last: &str, path: &str) -> io::Result<()> {
 }
 
 /// Writes a variable of this many bits.
-fn declare<W: Write>(out: &mut W, number: usize, width: usize, label: &str) -> io::Result<()> {
+pub fn declare<W: Write>(out: &mut W, number: usize, width: usize, label: &str) -> io::Result<()> {
     write!(out, "$var wire {width} ")?;
     write_identifier(out, number)?;
     writeln!(out, " {label} $end")
@@ -85,16 +79,4 @@ pub fn declare_in<W: Write>(
     leave(out, last, path)?;
     enter(out, last, path)?;
     declare(out, number, width, label)
-}
-
-/// Writes the scopes and variables of these nets. A listing has them path by path, so that each
-/// scope is entered once.
-pub fn write_nets<W: Write>(out: &mut W, names: &IndexSet<Vec<u8>>) -> io::Result<()> {
-    let mut last = "";
-    for (number, name) in names.iter().enumerate() {
-        let (path, label) = parts(str::from_utf8(name.as_slice()).unwrap_or(""));
-        declare_in(out, last, path, number, 1, label)?;
-        last = path;
-    }
-    leave(out, last, "")
 }

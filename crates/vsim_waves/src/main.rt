@@ -15,6 +15,7 @@ use crate::options::{Options, Request, read_request};
 use crate::vectors::Vectors;
 use crate::waves::Waves;
 use anyhow::{Context, Result, bail};
+use memchr::memchr_iter;
 use std::alloc::Global;
 use std::io::{self, BufWriter, Read, Write, writer};
 use std::process::ExitCode;
@@ -172,28 +173,45 @@ fn next_line<R: Read>(input: &mut Pieces<R>, is_partial: bool) -> Result<bool> {
 
 /// Takes the change of a line, unless something is to be written or refused first; `false` if it was
 /// not taken.
-fn take_known(waves: &mut Waves, line: Option<Line<'_>>) -> bool {
+#[inline(always)]
+fn take_known(alloc: Global, waves: &mut Waves, line: Option<Line<'_>>) -> bool {
     match line {
-        Some(Line::Change { at, name, value }) => waves.take(at, name, value),
+        Some(Line::Change { at, name, value }) => waves.take(alloc, at, name, value),
         Some(Line::Done) | None => false,
     }
 }
 
-/// Takes the next lines that are in the block of the stream, up to one that is not taken, which is
-/// then seen; `false` if there is no such line.
-fn take_block<R: Read>(view: &mut View<'_>, input: &mut Pieces<R>, lines: &mut LineReader) -> bool {
-    let View::Nets(waves) = view else {
-        return false;
-    };
-    for _ in 0..u64::MAX {
-        if !input.see_line() {
+/// Takes lines of a text, up to one that is not taken. Returns the length and the number of those
+/// that were.
+fn take_text(
+    alloc: Global,
+    waves: &mut Waves,
+    lines: &mut LineReader,
+    text: &[u8],
+) -> (usize, usize) {
+    let (mut length, mut count) = (0usize, 0usize);
+    for end in memchr_iter(b'\n', text) {
+        let line = text.get(length..end).unwrap_or(&[]);
+        if !take_known(alloc, waves, lines.read(line)) {
             break;
         }
-        if !take_known(waves, lines.read(input.piece())) {
-            return true;
-        }
+        length = end.saturating_add(1);
+        count = count.saturating_add(1);
     }
-    false
+    (length, count)
+}
+
+/// Takes the next lines that are in the block of the stream, up to one that is not taken.
+fn take_block<R: Read>(
+    alloc: Global,
+    view: &mut View<'_>,
+    input: &mut Pieces<R>,
+    lines: &mut LineReader,
+) {
+    if let View::Nets(waves) = view {
+        let (length, count) = take_text(alloc, waves, lines, input.rest());
+        input.pass(length, count);
+    }
 }
 
 /// Writes the waves of a listing, line by line.
@@ -204,9 +222,10 @@ fn write_lines<R: Read, W: Write>(
     view: &mut View<'_>,
     is_partial: bool,
 ) -> Result<()> {
-    let mut lines = LineReader::new(alloc);
+    let mut lines = LineReader::new();
     for _ in 0..u64::MAX {
-        if !take_block(view, input, &mut lines) && !next_line(input, is_partial)? {
+        take_block(alloc, view, input, &mut lines);
+        if !next_line(input, is_partial)? {
             break;
         }
         let number = input.lines();

@@ -1,10 +1,10 @@
 //! The values of nets over time.
 
 use crate::draft::{Change, Draft, ROOM};
-use crate::hierarchy::write_nets;
+use crate::hierarchy::{declare, enter, leave};
 use std::alloc::{AllocError, Global};
 use std::io::{self, Write};
-use vsim_waves_listing::{Moment, Names, is_name};
+use vsim_waves_listing::{Moment, Names, label_of};
 
 /// How far a listing has been read.
 #[derive(Clone, Copy, PartialEq, Eq)]
@@ -23,6 +23,8 @@ struct Shown {
     value: u8,
     written: u8,
     change: Change,
+    /// Where the last label of its name begins.
+    label: usize,
 }
 
 /// The part of a listing that has been read. All changes before the last time are written.
@@ -49,14 +51,14 @@ fn write_head<W: Write>(out: &mut W, scope: &str) -> io::Result<()> {
 
 /// Puts the value of a net, if it differs from the value put last: `0`, `1`, `x` and `z` as usual in
 /// a VCD, the others in the same way.
+#[inline(always)]
 fn put_change(draft: &mut Draft, nets: &mut Vec<Shown>, number: usize) {
     let Some(net) = nets.get_mut(number) else {
         return;
     };
     if net.written != net.value {
         net.written = net.value;
-        net.change.set(net.value.to_ascii_lowercase());
-        draft.put_change(&net.change);
+        draft.put_change(net.value.to_ascii_lowercase(), &net.change);
     }
 }
 
@@ -81,6 +83,31 @@ fn write_changes<W: Write>(
     Ok(())
 }
 
+/// A path without the dot behind it, or a label, as text.
+fn text_of(bytes: &[u8]) -> &str {
+    str::from_utf8(bytes.strip_suffix(b".").unwrap_or(bytes)).unwrap_or("")
+}
+
+/// The path of a net's name, with the dot behind it, and its last label. Where there is no such net,
+/// both are empty.
+#[inline(always)]
+fn parts<'a>(names: &'a Names, nets: &[Shown], number: usize) -> (&'a [u8], &'a [u8]) {
+    let (Some(net), Some(name)) = (nets.get(number), names.get(number)) else {
+        return (&[], &[]);
+    };
+    match name.split_at_checked(net.label) {
+        Some(parts) => parts,
+        None => (&[], &[]),
+    }
+}
+
+/// Writes what was put, and then goes from the scopes of a path to those of the next.
+fn go_on<W: Write>(out: &mut W, draft: &mut Draft, path: &[u8], next: &[u8]) -> io::Result<()> {
+    draft.flush(out)?;
+    leave(out, text_of(path), text_of(next))?;
+    enter(out, text_of(path), text_of(next))
+}
+
 impl Waves {
     /// Waves of which nothing has been read.
     pub fn new(alloc: Global, has_deltas: bool, scope: String) -> Result<Waves, AllocError> {
@@ -103,29 +130,38 @@ impl Waves {
         self.stage == Stage::Done
     }
 
-    /// Adds a net with its initial value; `false` if another net has its name.
+    /// Adds a net with its initial value; `false` if its name can be none, or is that of another net.
+    /// The last step is that it has a name, so this can be tried again where memory was short.
     fn add(&mut self, alloc: Global, name: &[u8], value: u8) -> Result<bool, AllocError> {
-        let number = self.nets.len();
-        if !self.names.add(alloc, name)? {
+        let Some(label) = label_of(name) else {
             return Ok(false);
-        }
-        self.put(number, value)?;
-        Ok(true)
+        };
+        self.put_next(label, value)?;
+        self.names.add(alloc, name)
     }
 
-    /// Sets the value of the net with a number, which is known or the next one.
-    fn put(&mut self, number: usize, value: u8) -> Result<(), AllocError> {
+    /// Puts the net that is named next behind those that have names.
+    fn put_next(&mut self, label: usize, value: u8) -> Result<(), AllocError> {
+        let number = self.names.len();
         self.changed.push(number)?;
-        if let Some(net) = self.nets.get_mut(number) {
-            net.value = value;
-            return Ok(());
-        }
+        self.nets.truncate(number);
         let change = Change::new(number);
         self.nets.push(Shown {
             value,
             written: 0,
             change,
+            label,
         })?;
+        Ok(())
+    }
+
+    /// Sets the value of the net with a number.
+    #[inline(always)]
+    fn put(&mut self, number: usize, value: u8) -> Result<(), AllocError> {
+        if let Some(net) = self.nets.get_mut(number) {
+            net.value = value;
+        }
+        self.changed.push(number)?;
         Ok(())
     }
 
@@ -136,8 +172,26 @@ impl Waves {
         }
         self.stage = Stage::Changes;
         write_head(out, self.scope.as_str())?;
-        write_nets(out, self.names.all())?;
+        self.write_nets(out)?;
         out.write_all(b"$upscope $end\n$enddefinitions $end\n")
+    }
+
+    /// Writes the scopes and variables of all nets. A listing has them path by path, so that each
+    /// scope is entered once.
+    fn write_nets<W: Write>(&mut self, out: &mut W) -> io::Result<()> {
+        let nets = self.nets.as_slice();
+        for (number, net) in nets.iter().enumerate() {
+            let (last, _) = parts(&self.names, nets, number.wrapping_sub(1));
+            let (path, label) = parts(&self.names, nets, number);
+            if path != last || !self.draft.has_room_for(label) {
+                go_on(out, &mut self.draft, last, path)?;
+            }
+            if !self.draft.put_declaration(&net.change, label) {
+                declare(out, number, 1, text_of(label))?;
+            }
+        }
+        let (last, _) = parts(&self.names, nets, nets.len().wrapping_sub(1));
+        go_on(out, &mut self.draft, last, &[])
     }
 
     /// The time under which the last moment is written. It is always later than the one before it.
@@ -214,10 +268,25 @@ impl Waves {
         at.time < self.last.time || (at.time == self.last.time && at.delta < self.last.delta)
     }
 
-    /// Takes a change behind the first values, unless something is to be written or refused first;
-    /// `false` if it was not taken.
-    pub fn take(&mut self, at: Moment, name: &[u8], value: u8) -> bool {
-        if self.stage != Stage::Changes || self.is_before(at) {
+    /// Takes a change, unless something is to be written or refused first; `false` if it was not
+    /// taken.
+    pub fn take(&mut self, alloc: Global, at: Moment, name: &[u8], value: u8) -> bool {
+        match self.stage {
+            Stage::Names => self.take_first(alloc, at, name, value),
+            Stage::Changes => self.take_later(at, name, value),
+            Stage::Done => false,
+        }
+    }
+
+    /// The same for a first value.
+    fn take_first(&mut self, alloc: Global, at: Moment, name: &[u8], value: u8) -> bool {
+        let is_first = at.time == 0 && at.delta == 0;
+        is_first && matches!(self.add(alloc, name, value), Ok(true))
+    }
+
+    /// The same for a change behind the first values.
+    fn take_later(&mut self, at: Moment, name: &[u8], value: u8) -> bool {
+        if self.is_before(at) {
             return false;
         }
         let Some(number) = self.names.find(name) else {
@@ -240,8 +309,7 @@ impl Waves {
         value: u8,
     ) -> io::Result<bool> {
         if at.time == 0 && at.delta == 0 {
-            let may_be_named = self.stage == Stage::Names && is_name(name);
-            return Ok(may_be_named && self.add(alloc, name, value)?);
+            return Ok(self.stage == Stage::Names && self.add(alloc, name, value)?);
         }
         let Some(number) = self.names.find(name) else {
             return Ok(false);

@@ -10,7 +10,7 @@ mod source_map;
 mod words;
 
 pub use fault::Fault;
-pub use line::{Line, LineReader, Moment, is_name, read_line};
+pub use line::{Line, LineReader, Moment, is_name, label_of, read_line};
 pub use names::Names;
 pub use pieces::Pieces;
 pub use source_map::{MapBit, SourceMap, Variable, read_map};

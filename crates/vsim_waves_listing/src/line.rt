@@ -1,7 +1,6 @@
 //! The lines of a listing.
 
-use crate::words::is_same;
-use std::alloc::Global;
+use crate::words::{digits_of, is_same};
 
 /// The time of a change in femtoseconds, and its delta number.
 #[derive(Clone, Copy, Debug, PartialEq, Eq, PartialOrd, Ord)]
@@ -24,18 +23,37 @@ pub enum Line<'a> {
     Done,
 }
 
-/// Whether a text can be the name of a net: labels of letters, digits and underscores, separated by
-/// dots.
-pub fn is_name(name: &[u8]) -> bool {
-    let mut is_label = false;
-    for byte in name {
-        let is_of_label = byte.is_ascii_alphanumeric() || *byte == b'_';
-        if !is_of_label && !(is_label && *byte == b'.') {
-            return false;
+/// The set of letters, digits and the underscore: a bit for each byte.
+static LABEL: [u64; 4] = [0x03FF_0000_0000_0000, 0x07FF_FFFE_87FF_FFFE, 0, 0];
+
+/// Whether a byte is a letter, a digit or an underscore.
+fn is_of_label(byte: u8) -> bool {
+    let set = LABEL.get(usize::from(byte >> 6)).copied().unwrap_or(0);
+    (set >> (byte & 63)) & 1 == 1
+}
+
+/// Where the last label of a name begins, if a text can be the name of a net: labels of letters,
+/// digits and underscores, separated by dots.
+pub fn label_of(name: &[u8]) -> Option<usize> {
+    let mut label = 0usize;
+    for (place, byte) in name.iter().enumerate() {
+        if !is_of_label(*byte) {
+            if *byte != b'.' || place == label {
+                return None;
+            }
+            label = place.saturating_add(1);
         }
-        is_label = is_of_label;
     }
-    is_label
+    if label < name.len() {
+        Some(label)
+    } else {
+        None
+    }
+}
+
+/// Whether a text can be the name of a net.
+pub fn is_name(name: &[u8]) -> bool {
+    label_of(name).is_some()
 }
 
 /// Whether a letter is a value of std_ulogic.
@@ -46,22 +64,87 @@ fn is_value(letter: u8) -> bool {
     )
 }
 
-/// The number with which a text begins, and what follows the blank behind it.
-fn number(text: &[u8]) -> Option<(u64, &[u8])> {
+/// The most digits of a number that is never too large for 64 bits.
+const DIGITS: usize = 19;
+
+/// The number of these digits, unless it is too large.
+#[cold]
+fn long_number(digits: &[u8]) -> Option<u64> {
     let mut value = 0u64;
-    for (place, byte) in text.iter().enumerate() {
+    for byte in digits {
         let digit = byte.wrapping_sub(b'0');
-        if digit > 9 {
-            let rest = text.get(place.saturating_add(1)..)?;
-            return if *byte == b' ' && place > 0 {
-                Some((value, rest))
-            } else {
-                None
-            };
-        }
         value = value.checked_mul(10)?.checked_add(u64::from(digit))?;
     }
-    None
+    Some(value)
+}
+
+/// The powers of ten up to that of eight digits.
+static POWERS: [u64; 9] = [
+    1,
+    10,
+    100,
+    1_000,
+    10_000,
+    100_000,
+    1_000_000,
+    10_000_000,
+    100_000_000,
+];
+
+/// The digits with which a text begins, up to eight at a time: how many, and the number that they
+/// are unless it is too large.
+#[inline(always)]
+fn leading_number(text: &[u8]) -> (usize, u64) {
+    let (mut length, mut value) = (0usize, 0u64);
+    let (chunks, rest) = text.as_chunks::<8>();
+    for chunk in chunks {
+        let (count, digits) = digits_of(*chunk);
+        value = appended(value, count, digits);
+        length = length.wrapping_add(count);
+        if count < 8 {
+            return (length, value);
+        }
+    }
+    let (count, digits) = digits_of(padded(rest));
+    (length.wrapping_add(count), appended(value, count, digits))
+}
+
+/// The number of some digits, with these behind it.
+#[inline(always)]
+fn appended(value: u64, count: usize, digits: u64) -> u64 {
+    let power = POWERS.get(count).copied().unwrap_or(1);
+    value.wrapping_mul(power).wrapping_add(digits)
+}
+
+/// The number with which a text begins, and what follows the blank behind it.
+#[inline(always)]
+fn number(text: &[u8]) -> Option<(u64, &[u8])> {
+    let (length, value) = leading_number(text);
+    let (digits, [b' ', rest @ ..]) = text.split_at_checked(length)? else {
+        return None;
+    };
+    match length {
+        0 => None,
+        1..=DIGITS => Some((value, rest)),
+        _ => Some((long_number(digits)?, rest)),
+    }
+}
+
+/// The same for a number that is mostly of one digit.
+fn short_number(text: &[u8]) -> Option<(u64, &[u8])> {
+    match text {
+        [digit @ b'0'..=b'9', b' ', rest @ ..] => Some((u64::from(digit.wrapping_sub(b'0')), rest)),
+        _ => number(text),
+    }
+}
+
+/// A text of less than eight bytes, with blanks behind it.
+fn padded(text: &[u8]) -> [u8; 8] {
+    let mut bytes = [b' '; 8];
+    for (byte, other) in bytes.iter_mut().zip(text) {
+        *byte = *other;
+    }
+    bytes
 }
 
 /// The last line, given what follows its first word.
@@ -76,12 +159,10 @@ fn last<'a>(numbers: &[u8]) -> Option<Line<'a>> {
 
 /// Reads a line of a listing: a time, a delta number, a name and a value, or `done` and two numbers.
 pub fn read_line(line: &[u8]) -> Option<Line<'_>> {
-    let line = without_return(line);
-    if let Some(numbers) = line.strip_prefix(b"done ") {
-        return last(numbers);
-    }
-    let (time, rest) = number(line)?;
-    let (delta, rest) = number(rest)?;
+    let Some((time, rest)) = number(line) else {
+        return last(without_return(line.strip_prefix(b"done ")?));
+    };
+    let (delta, rest) = short_number(rest)?;
     change(Moment { time, delta }, rest)
 }
 
@@ -92,7 +173,7 @@ fn without_return(line: &[u8]) -> &[u8] {
 
 /// The line of a change at a moment, given its name and value.
 fn change(at: Moment, rest: &[u8]) -> Option<Line<'_>> {
-    let [name @ .., b' ', value] = rest else {
+    let [name @ .., b' ', value] = without_return(rest) else {
         return None;
     };
     if !is_value(*value) {
@@ -105,27 +186,25 @@ fn change(at: Moment, rest: &[u8]) -> Option<Line<'_>> {
     })
 }
 
+/// The most bytes that precede a name where its moment is noted.
+const HEAD: usize = 32;
+
 /// Reads lines as `read_line` does. Most lines are of the moment of the line before, whose numbers
 /// are not read again.
+#[derive(Drop)]
 pub struct LineReader {
-    /// What precedes the names of that moment, or nothing.
-    head: Vec<u8>,
+    /// What precedes the names of that moment, and its length, which is 0 if no moment is noted.
+    head: [u8; HEAD],
+    length: usize,
     at: Moment,
-}
-
-/// Written by hand so that code which drops it needs no proof about its contents.
-impl Drop for LineReader {
-    fn drop(self) {
-        let LineReader { head, at: _ } = self;
-        drop(head);
-    }
 }
 
 impl LineReader {
     /// No line was read.
-    pub fn new(alloc: Global) -> LineReader {
+    pub fn new() -> LineReader {
         LineReader {
-            head: Vec::new(alloc),
+            head: [0; HEAD],
+            length: 0,
             at: Moment { time: 0, delta: 0 },
         }
     }
@@ -150,13 +229,12 @@ impl LineReader {
     }
 
     /// The name and value in a line of the moment of the line before.
+    #[inline(always)]
     fn rest<'a>(&self, line: &'a [u8]) -> Option<&'a [u8]> {
-        if self.head.is_empty() {
-            return None;
-        }
-        let head = line.get(..self.head.len())?;
-        if is_same(head, self.head.as_slice()) {
-            Some(without_return(line.get(head.len()..)?))
+        let (head, rest) = line.split_at_checked(self.length)?;
+        let noted = self.head.get(..self.length)?;
+        if self.length > 0 && is_same(head, noted) {
+            Some(rest)
         } else {
             None
         }
@@ -165,14 +243,14 @@ impl LineReader {
     /// Notes the moment of a line, whose name has this length and whose value has one letter.
     fn note(&mut self, line: &[u8], length: usize, at: Moment) {
         let end = line.len().saturating_sub(length).saturating_sub(2);
-        self.head.clear();
-        if self
-            .head
-            .extend_from_slice(line.get(..end).unwrap_or(&[]))
-            .is_err()
-        {
-            self.head.clear();
+        self.length = 0;
+        let Some(head) = line.get(..end) else {
+            return;
+        };
+        if let Some(room) = self.head.get_mut(..end) {
+            room.copy_from_slice(head);
+            self.length = end;
+            self.at = at;
         }
-        self.at = at;
     }
 }

@@ -99,8 +99,14 @@ impl<R: Read> Pieces<R> {
     }
 
     /// What was read and not seen yet.
-    fn rest(&self) -> &[u8] {
+    pub fn rest(&self) -> &[u8] {
         self.block.get(self.next..self.end).unwrap_or(&[])
+    }
+
+    /// Passes over so many bytes of what was not seen yet, which are so many lines.
+    pub fn pass(&mut self, bytes: usize, lines: usize) {
+        self.next = self.next.saturating_add(bytes);
+        self.lines = self.lines.saturating_add(lines);
     }
 
     /// The byte that follows, if there is one.
