@@ -9,11 +9,13 @@ VSIM_WAVES makes a VCD of the listing by the map. Then each variable of the sour
 of each time. With delays that are shorter than the time between changes, the same is so before each change of an input.
 
 Then small netlists whose listings were worked out by hand; netlists and stimuli with a fault, and larger ones beyond each limit of vsim,
-each refused by a sentence and with nothing on standard output; and netlists with one byte changed, or one member or item of their JSON,
-MUTATED of each (1,000 if it is not given). Each of these ends in a text that VSIM reads, or in a refusal, within 2 s.
+each refused by a sentence and with nothing on standard output; two netlists whose requests for memory are refused, one or all from one
+on; and netlists with one byte changed, or one member or item of their JSON, MUTATED of each (1,000 if it is not given). Each of these ends
+in a text that VSIM reads, or in a refusal, within 2 s.
 
 `netlist.py` makes the netlists and the VCDs anew. What differs is told, and the last line is `N passed, M failed`.
 """
+import concurrent.futures
 import copy
 import json
 import os
@@ -22,6 +24,8 @@ import resource
 import subprocess
 import sys
 import tempfile
+
+import refusals
 
 TOP = os.path.dirname(os.path.dirname(os.path.realpath(__file__)))
 FOLDER = f"{TOP}/tests/netlists"
@@ -632,6 +636,37 @@ def has_no_memory(program):
     demand(ran.returncode == 4 and not ran.stdout, f"status {ran.returncode}: {ran.stderr.decode()}")
 
 
+def many_registers():
+    """Returns a netlist of registers of three kinds, of gates that are nested in them, and of names that differ in case alone."""
+    names = {"c": 2, "d": 3, "D": 4, "r": 5, "e": 6}
+    ports = {name: {"direction": "input", "bits": [bit]} for name, bit in names.items()}
+    ports.update((name, {"direction": "output", "bits": [bit]}) for name, bit in {"q": 7, "Q": 8, "p": 9}.items())
+    return netlist({
+        "u": cell("$_DFFE_PN0P_", {"C": [2], "D": [10], "E": [6], "R": [5], "Q": [7]}),
+        "v": cell("$_DFFSR_PPP_", {"C": [2], "D": [4], "R": [5], "S": [6], "Q": [8]}),
+        "w": cell("$_SDFFCE_PN0P_", {"C": [2], "D": [11], "E": [6], "R": [5], "Q": [9]}),
+        "x": cell("$_XOR_", {"A": [3], "B": [4], "Y": [10]}),
+        "z": cell("$lut", {"A": [3, 4], "Y": [11]}, parameters={"LUT": "0110", "WIDTH": "10"}),
+    }, **ports)
+
+
+def is_whole_or_lacks_memory(program, shim, given, words):
+    """Demands that a run ends with the text that ample memory gives or with the refusal for lack of memory, if one request for memory is
+    refused of the later half, in which the text is written, or all from one on, of which every twentieth is tried."""
+    ample = refusals.answer(program, words, given, {})
+    demand(ample[0] == 0 and ample[1], f"with ample memory: {ample}")
+    numbers = range(1, refusals.requests(program, words, given, shim) + 1)
+    plans = [*((number, {}) for number in numbers[len(numbers) // 2:]), *((number, {"REFUSE_ON": "1"}) for number in numbers[::20])]
+
+    def one(plan):
+        return refusals.answer(program, words, given, {"LD_PRELOAD": shim, "REFUSE_AT": str(plan[0]), **plan[1]}, SECONDS)
+
+    with concurrent.futures.ThreadPoolExecutor(refusals.AT_ONCE) as pool:
+        for (number, more), found in zip(plans, pool.map(one, plans)):
+            lacks = found[:2] == (4, b"") and found[2].endswith((b": memory allocation failed\n", b": out of memory\n"))
+            demand(lacks or found == ample, f"request {number}{' and on' if more else ''}: {found}")
+
+
 def is_read_or_refused(programs, name, text, words):
     """Demands that a netlist ends in a text that vsim reads, or in a refusal, within 2 s."""
     vsim, netlist, _ = programs
@@ -730,6 +765,9 @@ def tests_of(programs, folder, mutated):
     for row in failing(folder):
         yield f"{row[0]} and status {row[2]}", lambda row=row: fails(program, *row)
     yield "no memory", lambda: has_no_memory(program)
+    shim, timed = refusals.library(folder), [f"--{kind}={FOLDER}/glitch.{ending}" for kind, ending in (("liberty", "lib"), ("sdf", "sdf"))]
+    for name, *row in (("registers", many_registers().encode(), []), ("timed cells", read(f"{FOLDER}/glitch.json"), timed)):
+        yield f"refused requests of {name}", lambda row=row: is_whole_or_lacks_memory(program, shim, *row)
     for name in NAMES:
         yield f"bytes of stimuli of {name}", lambda name=name: are_short(program, name)
     yield "netlists with another byte", lambda: are_bytes_mutated(programs, mutated)

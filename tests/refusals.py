@@ -107,10 +107,10 @@ def words_of(design):
         return file.read().split()
 
 
-def answer(program, words, text, settings):
+def answer(program, words, text, settings, longest=LONGEST):
     """The status of a run, its standard output and its standard error."""
     try:
-        ran = subprocess.run([program, *words], input=text, capture_output=True, timeout=LONGEST, env={**os.environ, **settings})
+        ran = subprocess.run([program, *words], input=text, capture_output=True, timeout=longest, env={**os.environ, **settings})
     except subprocess.TimeoutExpired:
         return "no end", b"", b""
     return ran.returncode, ran.stdout, ran.stderr

@@ -36,7 +36,7 @@ pub(crate) fn make_map(
     end: u64,
 ) -> Result<String, AllocError> {
     let mut text = Draft::of(alloc, "vsim_netlist map 1 ");
-    text.push_draft(&signals.entity);
+    text.push(signals.entity.as_str());
     text.push("\nend ");
     text.push_shown(&end);
     text.push_all(&["\ntop ", netlist.name.as_str(), "\n"]);

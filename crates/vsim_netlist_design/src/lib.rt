@@ -38,6 +38,6 @@ pub use lists::{empty_lists, push};
 pub use netlist::{Cell, Net, Netlist, Port, Variable};
 pub use registers::{Control, Register, Style};
 pub use stimuli::{Change, Stimuli};
-pub use times::push_time;
+pub use times::{push_time, time_bytes};
 pub use timing::{PathCondition, PathDelay, Timing};
 pub use writing::Draft;

@@ -23,3 +23,10 @@ pub fn push_time(text: &mut Draft, time: u64) {
     text.push_shown(&number);
     text.push(unit);
 }
+
+/// The number of bytes of that text.
+pub fn time_bytes(time: u64) -> usize {
+    let (number, unit) = in_units(time);
+    let after_first = number.checked_ilog10().unwrap_or(0) as usize;
+    after_first.saturating_add(unit.len().saturating_add(1))
+}

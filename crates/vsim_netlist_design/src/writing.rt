@@ -93,6 +93,17 @@ impl Draft {
         self.text.as_str()
     }
 
+    /// The text so far, to decide how it goes on.
+    pub fn so_far(&mut self) -> &str {
+        self.text.as_str()
+    }
+
+    /// The text so far, to decide what goes into another one. That lacks a part if this one does.
+    pub fn read_for(&self, made: &mut Draft) -> &str {
+        made.lack_with(self);
+        self.text.as_str()
+    }
+
     /// The whole text, or an error if it lacks a part.
     pub fn finish(self) -> Result<String, AllocError> {
         let Draft { text, is_whole } = self;

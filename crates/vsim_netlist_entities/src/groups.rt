@@ -99,12 +99,14 @@ impl Group {
     }
 
     /// Whether an entity and its instances are shorter than the processes.
-    fn is_shorter_shared(&self, alloc: Global, shape: &str) -> bool {
+    fn is_shorter_shared(&self, statements: &mut Statements, shape: &str) -> bool {
         if self.members.len() < 2 {
             return false;
         }
+        let alloc = statements.alloc;
         let entity = entity(alloc, SOME_NAME, shape, self.inputs(), self.initial);
-        self.instance_bytes.saturating_add(entity.as_str().len()) < self.bytes
+        let bytes = entity.read_for(&mut statements.entities).len();
+        self.instance_bytes.saturating_add(bytes) < self.bytes
     }
 }
 
@@ -146,7 +148,7 @@ impl Groups {
     /// Adds a process with its shape.
     fn put(
         &mut self,
-        statements: &Statements,
+        statements: &mut Statements,
         number: usize,
         process: &TimedProcess,
         shape: Shape,
@@ -155,7 +157,7 @@ impl Groups {
         let initial = statements.signals.initial(output);
         let key = key_of(self.alloc, initial, &shape.text)?;
         let place = self.place(key, initial)?;
-        let bytes = process.text.as_str().len();
+        let bytes = process.text.read_for(&mut statements.body).len();
         let instance_bytes = instance_bytes(statements, shape.inputs.as_slice(), output);
         let member = Member {
             number,
@@ -173,8 +175,8 @@ impl Groups {
         number: usize,
         process: &TimedProcess,
     ) -> Result<(), AllocError> {
-        let mut shape = catalogue.shape(process.text.as_str(), process.output)?;
-        shape.text.lack_with(&process.text);
+        let text = process.text.read_for(&mut statements.body);
+        let shape = catalogue.shape(text, process.output)?;
         if shape.reads_output {
             statements.body.push_draft(&process.text);
             return Ok(());
@@ -231,7 +233,7 @@ fn put_groups(statements: &mut Statements, processes: &[TimedProcess], groups: &
     let mut left = MOST;
     for (key, group) in groups.keys.iter().zip(groups.groups.iter()) {
         let (shape, count) = (shape_in(key.as_str()), group.members.len());
-        if count <= left && group.is_shorter_shared(groups.alloc, shape) {
+        if count <= left && group.is_shorter_shared(statements, shape) {
             put_shared(statements, shape, group);
             left = left.saturating_sub(count);
         } else {

@@ -63,7 +63,7 @@ pub(crate) fn put_instance(
     output: usize,
 ) {
     let label = statements.signals.names.fresh();
-    statements.body.push_draft(&label);
+    statements.body.push(label.as_str());
     statements
         .body
         .push_all(&[":entity work.", entity, " port map("]);

@@ -157,7 +157,7 @@ fn conditions(statements: &mut Statements, register: &Register) -> Conditions {
 
 /// Adds a name to a list.
 fn push_item(list: &mut Draft, name: &str) {
-    if !list.as_str().is_empty() {
+    if !list.so_far().is_empty() {
         list.push(",");
     }
     list.push(name);
@@ -284,8 +284,10 @@ impl<'a> Builder<'a> {
     }
 
     /// Whether the expression of a net is kept for the cell that reads it.
-    fn is_kept(&self, place: usize, expression: &Expression) -> bool {
-        expression.depth < DEEPEST && expression.text.as_str().len() <= self.room_within(place)
+    fn is_kept(&mut self, place: usize, expression: &Expression) -> bool {
+        let room = self.room_within(place);
+        let text = expression.text.read_for(&mut self.statements.body);
+        expression.depth < DEEPEST && text.len() <= room
     }
 
     /// Keeps the expression of a net, or writes it.

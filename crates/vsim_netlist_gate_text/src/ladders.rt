@@ -105,16 +105,12 @@ pub(crate) fn tested(
     path: &PathDelay,
     name: &str,
 ) -> TestedPath {
-    let plain = test_of(alloc, timing, conditions, path, name);
-    if path.edge == Edge::Both && !plain.as_str().contains(' ') {
-        return TestedPath {
-            test: plain,
-            path: *path,
-        };
-    }
-    let mut test = Draft::of(alloc, "(");
-    test.push_draft(&plain);
-    test.push(")");
+    let inner = test_of(alloc, timing, conditions, path, name);
+    let mut test = Draft::new(alloc);
+    let is_plain = path.edge == Edge::Both && !inner.read_for(&mut test).contains(' ');
+    test.push(if is_plain { "" } else { "(" });
+    test.push_draft(&inner);
+    test.push(if is_plain { "" } else { ")" });
     TestedPath { test, path: *path }
 }
 
@@ -206,7 +202,7 @@ fn ladder(
 
 /// Adds a statement as the last branch, with the end of the whole.
 fn push_last(text: &mut Draft, statement: &Draft) {
-    if statement.as_str().starts_with("if ") {
+    if statement.read_for(text).starts_with("if ") {
         text.push("els");
         return text.push_draft(statement);
     }
@@ -219,12 +215,13 @@ fn push_last(text: &mut Draft, statement: &Draft) {
 fn edges(alloc: Global, target: &str, paths: &[TestedPath]) -> Result<Draft, AllocError> {
     let rise = ladder(alloc, target, paths, Change::Rise)?;
     let fall = ladder(alloc, target, paths, Change::Fall)?;
-    if rise.as_str() == fall.as_str() {
-        return Ok(rise);
-    }
-    let mut text = Draft::of(alloc, "if n='1'or v='0'then ");
+    let mut text = Draft::new(alloc);
+    let is_same = rise.read_for(&mut text) == fall.read_for(&mut text);
+    text.push(if is_same { "" } else { "if n='1'or v='0'then " });
     text.push_draft(&rise);
-    push_last(&mut text, &fall);
+    if !is_same {
+        push_last(&mut text, &fall);
+    }
     Ok(text)
 }
 

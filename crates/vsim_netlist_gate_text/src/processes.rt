@@ -69,7 +69,7 @@ impl Drop for Process {
 
 /// Adds the head of a branch.
 fn push_head(text: &mut Draft, condition: &Draft, is_first: bool) {
-    if condition.as_str().is_empty() {
+    if condition.read_for(text).is_empty() {
         return text.push("else ");
     }
     text.push(if is_first { "if " } else { "elsif " });
@@ -79,7 +79,7 @@ fn push_head(text: &mut Draft, condition: &Draft, is_first: bool) {
 
 /// Adds a branch, unless it assigns nothing. Returns whether the next one is the first.
 fn push_branch(text: &mut Draft, condition: &Draft, assigned: &Draft, is_first: bool) -> bool {
-    if assigned.as_str().is_empty() {
+    if assigned.read_for(text).is_empty() {
         return is_first;
     }
     push_head(text, condition, is_first);
@@ -91,7 +91,7 @@ fn push_branch(text: &mut Draft, condition: &Draft, assigned: &Draft, is_first: 
 fn both(alloc: Global, first: &Draft, second: &Draft) -> Draft {
     let mut text = Draft::new(alloc);
     text.push_draft(first);
-    if !first.as_str().is_empty() && !second.as_str().is_empty() {
+    if !first.read_for(&mut text).is_empty() && !second.read_for(&mut text).is_empty() {
         text.push("and ");
     }
     text.push_draft(second);

@@ -113,7 +113,7 @@ pub(crate) fn computation(alloc: Global, value: &Expression) -> Draft {
 
 /// Adds an expression as an operand of a comparison.
 fn push_compared(text: &mut Draft, value: &Expression) {
-    let is_plain = !value.text.as_str().contains(' ');
+    let is_plain = !value.text.read_for(text).contains(' ');
     text.push(if is_plain { "" } else { "(" });
     text.push_draft(&value.text);
     text.push(if is_plain { "" } else { ")" });

@@ -82,7 +82,7 @@ fn is_word(byte: Option<&u8>) -> bool {
 
 /// Adds a space if the next part would otherwise join the word before it.
 fn push_space(text: &mut Draft, next: &str) {
-    if is_word(text.as_str().as_bytes().last()) && is_word(next.as_bytes().first()) {
+    if is_word(text.so_far().as_bytes().last()) && is_word(next.as_bytes().first()) {
         text.push(" ");
     }
 }
@@ -90,7 +90,8 @@ fn push_space(text: &mut Draft, next: &str) {
 /// Adds an operand of an operator, in parentheses if needed. Returns its depth.
 fn push_operand(text: &mut Draft, operand: &Expression, operator: Outside) -> usize {
     if operand.outside.fits(operator) {
-        push_space(text, operand.text.as_str());
+        let next = operand.text.read_for(text);
+        push_space(text, next);
         text.push_draft(&operand.text);
         return operand.depth;
     }

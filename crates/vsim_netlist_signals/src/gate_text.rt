@@ -19,11 +19,6 @@ fn kept_by_zero(alloc: Global, low: &Expression, select: &Expression) -> Express
     binary(alloc, low, Outside::And, &refused)
 }
 
-/// Whether an expression is a literal.
-fn is(expression: &Expression, literal: &str) -> bool {
-    expression.text.as_str() == literal
-}
-
 /// A copy of an expression.
 pub(crate) fn copy(alloc: Global, expression: &Expression) -> Expression {
     let mut text = Draft::new(alloc);
@@ -36,21 +31,23 @@ pub(crate) fn copy(alloc: Global, expression: &Expression) -> Expression {
     }
 }
 
-/// Like `selected`, for two parts of a table, which are often literals.
-fn looked_up(
+/// Like `selected`, for two parts of a table, which are often literals, given their texts.
+fn shortened(
     alloc: Global,
     low: &Expression,
     high: &Expression,
     select: &Expression,
+    texts: (&str, &str),
 ) -> Expression {
-    if low.text.as_str() == high.text.as_str() {
+    let (first, second) = texts;
+    if first == second {
         return copy(alloc, low);
     }
     match (
-        is(low, "'0'"),
-        is(low, "'1'"),
-        is(high, "'0'"),
-        is(high, "'1'"),
+        first == "'0'",
+        first == "'1'",
+        second == "'0'",
+        second == "'1'",
     ) {
         (true, _, _, true) => copy(alloc, select),
         (_, true, true, _) => negation(alloc, select),
@@ -60,6 +57,20 @@ fn looked_up(
         (_, true, _, _) => opened(alloc, high, select),
         _ => selected(alloc, low, high, select),
     }
+}
+
+/// Selects one of two parts of a table.
+fn looked_up(
+    alloc: Global,
+    low: &Expression,
+    high: &Expression,
+    select: &Expression,
+) -> Expression {
+    let mut read = Draft::new(alloc);
+    let texts = (low.text.read_for(&mut read), high.text.read_for(&mut read));
+    let mut found = shortened(alloc, low, high, select, texts);
+    found.text.lack_with(&read);
+    found
 }
 
 /// An expression if a selection is `1`, and otherwise `1`.

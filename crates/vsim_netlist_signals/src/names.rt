@@ -196,10 +196,10 @@ fn short(alloc: Global, number: u64) -> Draft {
 }
 
 /// A name of the source in VHDL: letters and digits, with an underscore for any other character.
-pub(crate) fn plain_name(alloc: Global, source: &Draft) -> Draft {
-    let text = source.as_str();
-    let mut name = Draft::of(alloc, if starts_plain(text) { "" } else { "s" });
-    name.lack_with(source);
+fn plain_name(alloc: Global, source: &Draft) -> Draft {
+    let mut name = Draft::new(alloc);
+    let text = source.read_for(&mut name);
+    name.push(if starts_plain(text) { "" } else { "s" });
     let mut has_gap = false;
     for byte in text.as_bytes() {
         let is_plain = byte.is_ascii_alphanumeric();
@@ -213,7 +213,7 @@ pub(crate) fn plain_name(alloc: Global, source: &Draft) -> Draft {
 
 /// Adds a letter or digit, after an underscore for the other characters before it.
 fn push_plain(name: &mut Draft, byte: u8, has_gap: bool) {
-    if has_gap && !name.as_str().is_empty() {
+    if has_gap && !name.so_far().is_empty() {
         name.push("_");
     }
     name.push_char(char::from(byte.to_ascii_lowercase()));
@@ -244,7 +244,9 @@ impl Names {
     /// Adds names to those in use.
     pub(crate) fn reserve(&mut self, words: &[&str]) {
         for word in words {
-            let _ = self.take(word);
+            if self.take(word).is_err() {
+                self.lack();
+            }
         }
     }
 
@@ -258,63 +260,73 @@ impl Names {
         self.is_whole
     }
 
-    /// Reserves a name, if there is memory. Returns `false` if it is in use.
-    fn try_take(&mut self, name: &str) -> Result<bool, AllocError> {
+    /// Reserves a name. Returns `false` if it is in use.
+    fn take(&mut self, name: &str) -> Result<bool, AllocError> {
         let name = String::from_str(self.alloc, name)?;
         Ok(self.taken.insert(name)?)
     }
 
-    /// Reserves a name. Returns `false` if it is in use.
-    fn take(&mut self, name: &str) -> bool {
-        match self.try_take(name) {
-            Ok(is_new) => is_new,
+    /// Reserves a name that was put together, and returns it, unless it is in use.
+    fn take_draft(&mut self, name: Draft) -> Result<Option<String>, AllocError> {
+        let name = name.finish()?;
+        let is_new = self.take(name.as_str())?;
+        Ok(if is_new { Some(name) } else { None })
+    }
+
+    /// A new name, or an empty one where memory did not suffice, which is noted.
+    fn noted(&mut self, name: Result<String, AllocError>) -> String {
+        match name {
+            Ok(name) => name,
             Err(_) => {
                 self.lack();
-                true
+                String::new(self.alloc)
             }
         }
     }
 
-    /// Reserves a name that was put together. Returns `false` if it is in use.
-    fn take_draft(&mut self, name: &Draft) -> bool {
-        if !name.is_whole() {
-            self.lack();
-        }
-        self.take(name.as_str())
-    }
-
-    /// A new short name.
-    pub fn fresh(&mut self) -> Draft {
+    /// A new short name, if there is memory.
+    fn find_fresh(&mut self) -> Result<String, AllocError> {
         for _ in 0..u64::MAX {
             let name = short(self.alloc, self.next);
             self.next = self.next.saturating_add(1);
-            if self.take_draft(&name) {
-                return name;
+            if let Some(name) = self.take_draft(name)? {
+                return Ok(name);
             }
         }
-        Draft::new(self.alloc)
+        Err(AllocError)
+    }
+
+    /// A new name that ends in a number, if there is memory.
+    fn find_numbered(&mut self, name: &str) -> Result<String, AllocError> {
+        for number in 2..u64::MAX {
+            let mut other = Draft::of(self.alloc, name);
+            other.push("_");
+            other.push_shown(&number);
+            if let Some(other) = self.take_draft(other)? {
+                return Ok(other);
+            }
+        }
+        Err(AllocError)
+    }
+
+    /// A new name, as near as possible to one of the source, if there is memory.
+    fn find_like(&mut self, source: &Draft) -> Result<String, AllocError> {
+        let name = plain_name(self.alloc, source).finish()?;
+        if self.take(name.as_str())? {
+            return Ok(name);
+        }
+        self.find_numbered(name.as_str())
+    }
+
+    /// A new short name.
+    pub fn fresh(&mut self) -> String {
+        let name = self.find_fresh();
+        self.noted(name)
     }
 
     /// A new name, as near as possible to one of the source.
-    pub fn like(&mut self, source: &Draft) -> Draft {
-        let name = plain_name(self.alloc, source);
-        if self.take_draft(&name) {
-            return name;
-        }
-        self.numbered(&name)
-    }
-
-    /// A new name that ends in a number.
-    fn numbered(&mut self, name: &Draft) -> Draft {
-        for number in 2..u64::MAX {
-            let mut other = Draft::new(self.alloc);
-            other.push_draft(name);
-            other.push("_");
-            other.push_shown(&number);
-            if self.take_draft(&other) {
-                return other;
-            }
-        }
-        Draft::new(self.alloc)
+    pub fn like(&mut self, source: &Draft) -> String {
+        let name = self.find_like(source);
+        self.noted(name)
     }
 }

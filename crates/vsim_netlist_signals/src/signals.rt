@@ -1,13 +1,13 @@
 //! The signals of a text.
 
-use crate::names::{Names, plain_name};
+use crate::names::Names;
 use std::alloc::Global;
 use vsim_netlist_design::{Bit, Draft, Level, Netlist, Port};
 
 /// A signal: its name, once it has one, and its initial value.
 #[derive(Drop)]
 struct Signal {
-    name: Option<Draft>,
+    name: Option<String>,
     initial: Option<Level>,
 }
 
@@ -23,7 +23,7 @@ struct Constant {
 pub struct Signals {
     alloc: Global,
     /// The name of the entity.
-    pub entity: Draft,
+    pub entity: String,
     pub names: Names,
     signals: Vec<Signal>,
     constants: Vec<Constant>,
@@ -41,12 +41,6 @@ static INITIALS: [(Option<Level>, &str); 5] = [
 /// The names of the variables and the attribute in cells that have the delays of paths.
 static VARIABLES: [&str; 3] = ["v", "n", "event"];
 
-/// The name of the entity.
-fn entity_name(alloc: Global, names: &mut Names, source: &str) -> Draft {
-    let name = plain_name(alloc, &Draft::of(alloc, source));
-    names.like(&name)
-}
-
 impl Signals {
     /// No signals. The entity has the name of the netlist.
     fn new(alloc: Global, netlist: &Netlist) -> Signals {
@@ -54,7 +48,7 @@ impl Signals {
         if netlist.has_paths {
             names.reserve(&VARIABLES);
         }
-        let entity = entity_name(alloc, &mut names, netlist.name.as_str());
+        let entity = names.like(&Draft::of(alloc, netlist.name.as_str()));
         Signals {
             alloc,
             entity,
@@ -65,7 +59,7 @@ impl Signals {
     }
 
     /// Adds a signal at the end.
-    fn push(&mut self, name: Option<Draft>, initial: Option<Level>) {
+    fn push(&mut self, name: Option<String>, initial: Option<Level>) {
         if self.signals.push(Signal { name, initial }).is_err() {
             self.names.lack();
         }
@@ -106,7 +100,7 @@ impl Signals {
     }
 
     /// Gives a name to a signal.
-    fn put_name(&mut self, place: usize, name: Draft) {
+    fn put_name(&mut self, place: usize, name: String) {
         if let Some(signal) = self.signals.get_mut(place) {
             signal.name = Some(name);
         }

@@ -56,14 +56,7 @@ fn is_alone(uses: &Uses, clock: &Clock, time: u64) -> bool {
 }
 
 /// Whether an input takes fewer bytes in the table, with the edges that it alone needs.
-fn belongs(
-    alloc: Global,
-    signals: &Signals,
-    uses: &Uses,
-    clock: &Clock,
-    net: usize,
-    changes: &[Change],
-) -> bool {
+fn belongs(signals: &Signals, uses: &Uses, clock: &Clock, net: usize, changes: &[Change]) -> bool {
     let edge = edge_bytes(edges_in_direction(clock), uses.len());
     let mut in_table = if is_any_late(clock, changes) { LATE } else { 0 };
     let mut as_waveform = 0usize;
@@ -72,14 +65,13 @@ fn belongs(
             in_table = in_table.saturating_add(edge);
         }
         in_table = in_table.saturating_add(assignment_of(signals, net, change.level));
-        as_waveform = as_waveform.saturating_add(element_of(alloc, change.time));
+        as_waveform = as_waveform.saturating_add(element_of(change.time));
     }
     in_table <= as_waveform
 }
 
 /// Takes the inputs from the table that do not belong there. Returns whether any did not.
 fn leave(
-    alloc: Global,
     signals: &Signals,
     uses: &Uses,
     clock: &Clock,
@@ -88,7 +80,7 @@ fn leave(
 ) -> bool {
     let mut is_changed = false;
     for ((net, changes), is_chosen) in inputs.iter().zip(chosen.iter_mut()) {
-        if *is_chosen && !belongs(alloc, signals, uses, clock, *net, changes) {
+        if *is_chosen && !belongs(signals, uses, clock, *net, changes) {
             *is_chosen = false;
             is_changed = true;
         }
@@ -122,7 +114,7 @@ pub(crate) fn chosen(
     let mut chosen = at_edges(alloc, clock, inputs, rises)?;
     for _ in 0..ROUNDS {
         let uses = uses_of(alloc, clock, inputs, chosen.as_slice())?;
-        if !leave(alloc, signals, &uses, clock, inputs, chosen.as_mut_slice()) {
+        if !leave(signals, &uses, clock, inputs, chosen.as_mut_slice()) {
             break;
         }
     }

@@ -609,7 +609,7 @@ fn push_once(text: &mut Draft, never: &str, once: &Draft) {
 
 /// Writes the process that is executed once, with these statements.
 fn put_once(statements: &mut Statements, once: &Draft) {
-    if once.as_str().is_empty() {
+    if once.read_for(&mut statements.body).is_empty() {
         return;
     }
     let never = statements.signals.constant(Level::Zero);

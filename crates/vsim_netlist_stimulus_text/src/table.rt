@@ -5,7 +5,7 @@ ghost use Rattle.std.specs.Prelude.{◌≤◌, length};
 use crate::clock::Edge;
 use crate::targets::Targets;
 use std::alloc::{AllocError, Global};
-use vsim_netlist_design::{Change, Draft, Level, push, push_time};
+use vsim_netlist_design::{Change, Draft, Level, push, time_bytes};
 use vsim_netlist_signals::{Names, Signals, Statements};
 
 /// The bytes that the tests for an edge take, on average, if there are changes at each edge.
@@ -58,7 +58,7 @@ impl Drop for Table {
 /// A bit of the counter of edges: its variable, and what it stands for.
 #[derive(Drop)]
 struct CounterBit {
-    name: Draft,
+    name: String,
     weight: usize,
 }
 
@@ -104,14 +104,14 @@ impl Table {
     /// Whether a process takes fewer bytes than waveforms, given those that it takes apart from
     /// edges and assignments. Changes are sorted.
     /// `all` is the number of edges of the clock.
-    pub(crate) fn pays(&self, alloc: Global, signals: &Signals, all: usize, others: usize) -> bool {
+    pub(crate) fn pays(&self, signals: &Signals, all: usize, others: usize) -> bool {
         let changes = self.changes.as_slice();
         let edges = self.edges();
         let tests = edges.saturating_mul(edge_bytes(all, edges));
         let costs = tests
             .saturating_add(others)
             .saturating_add(assignment_bytes(signals, changes));
-        !self.order.is_empty() && costs <= element_bytes(alloc, changes)
+        !self.order.is_empty() && costs <= element_bytes(changes)
     }
 }
 
@@ -139,8 +139,8 @@ pub(crate) fn assignment_of(signals: &Signals, net: usize, level: Level) -> usiz
 }
 
 /// The bytes that an element of a waveform takes, at a time.
-pub(crate) fn element_of(alloc: Global, time: u64) -> usize {
-    time_bytes(alloc, time).saturating_add(ELEMENT)
+pub(crate) fn element_of(time: u64) -> usize {
+    time_bytes(time).saturating_add(ELEMENT)
 }
 
 /// The bytes that assignments of the values of these changes take.
@@ -153,19 +153,12 @@ fn assignment_bytes(signals: &Signals, changes: &[Assignment]) -> usize {
 }
 
 /// The bytes that elements of waveforms take for these changes.
-fn element_bytes(alloc: Global, changes: &[Assignment]) -> usize {
+fn element_bytes(changes: &[Assignment]) -> usize {
     let mut bytes = 0usize;
     for it in changes {
-        bytes = bytes.saturating_add(element_of(alloc, it.change.time));
+        bytes = bytes.saturating_add(element_of(it.change.time));
     }
     bytes
-}
-
-/// The bytes that a time takes.
-fn time_bytes(alloc: Global, time: u64) -> usize {
-    let mut text = Draft::new(alloc);
-    push_time(&mut text, time);
-    text.as_str().len()
 }
 
 /// The text of a level: a signal that always has it, if that is shorter than the literal.

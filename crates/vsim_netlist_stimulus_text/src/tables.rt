@@ -129,7 +129,7 @@ fn table_of(
     let chosen = chosen(alloc, signals, clock, inputs, rises)?;
     let mut table = Table::new(alloc);
     push_inputs(&mut table, clock, inputs, chosen.as_slice())?;
-    if !table.pays(alloc, signals, edges_in_direction(clock), COUNTER) {
+    if !table.pays(signals, edges_in_direction(clock), COUNTER) {
         return Ok(None);
     }
     note(targets, clock, inputs, chosen.as_slice())?;
@@ -179,7 +179,7 @@ fn add_with_clock(
     let before = found.len();
     add_tables(alloc, signals, clock, inputs, found)?;
     let pays = match found.last() {
-        Some(tables) => tables.pay_with_clock(alloc, signals),
+        Some(tables) => tables.pay_with_clock(signals),
         None => false,
     };
     if !pays {
@@ -254,13 +254,13 @@ impl Tables {
 
     /// Whether the table of the rising edges is worth a clock that is added for it, and has changes
     /// at half of its edges or more.
-    fn pay_with_clock(&self, alloc: Global, signals: &Signals) -> bool {
+    fn pay_with_clock(&self, signals: &Signals) -> bool {
         match &self.rising {
             Some(table) => {
                 let edges = edges_in_direction(&self.clock);
                 let is_dense = edges / 2 <= table.edges();
                 let others = self.targets.late_bytes().saturating_add(COUNTER + CLOCK);
-                is_dense && table.pays(alloc, signals, edges, others)
+                is_dense && table.pays(signals, edges, others)
             }
             None => false,
         }
