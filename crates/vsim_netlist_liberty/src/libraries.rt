@@ -133,6 +133,7 @@ pub fn read_library(
 ) -> Result<(), Fault> {
     let mut file = Draft::of(alloc, "the Liberty file ");
     file.push(path);
+    let file = file.finish()?;
     let mut target = Target {
         library,
         file: file.as_str(),

@@ -28,7 +28,10 @@ fn placed(alloc: Global, fault: Fault, line: usize, cell: &str, pin: Option<&str
     if let Some(pin) = pin {
         place.push_all(&[", pin ", pin]);
     }
-    fault.about(alloc, &[place.as_str()])
+    match place.finish() {
+        Ok(place) => fault.about(alloc, &[place.as_str()]),
+        Err(_lack) => Fault::Memory,
+    }
 }
 
 /// The first output without a function, if there is one.
@@ -46,9 +49,9 @@ fn demand_supported(alloc: Global, cell: &WrittenCell<'_>) -> Result<(), Fault> 
     let Some(found) = cell.unsupported else {
         return Ok(());
     };
-    let told = Draft::of(alloc, found.told);
-    let mut told = told;
+    let mut told = Draft::of(alloc, found.told);
     told.push(" is not supported");
+    let told = told.finish()?;
     match found.pin.or(bare_output(cell)) {
         Some(pin) => Err(fault_of_pin(alloc, found.line, cell.name, pin, told.as_str())),
         None => Err(fault_of(alloc, found.line, cell.name, told.as_str())),

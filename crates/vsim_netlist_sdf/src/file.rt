@@ -74,8 +74,10 @@ impl<'a> Reader<'a> {
 
     /// The refusal of a unit of times.
     fn no_scale(&self, text: &str) -> Fault {
-        let shown = line_of(self.alloc, text);
-        self.fault(&["'", shown.as_str(), "' is no TIMESCALE, as 100ps is"])
+        let mut told = Draft::of(self.alloc, "'");
+        told.push_draft(&line_of(self.alloc, text));
+        told.push("' is no TIMESCALE, as 100ps is");
+        self.fault_of(self.line, told)
     }
 
     /// Takes the kind of a cell.
@@ -145,7 +147,7 @@ impl<'a> Reader<'a> {
         text.push("\", and \"");
         text.push(self.delays.kind_names.name(other));
         text.push("\" before");
-        self.fault(&[text.as_str()])
+        self.fault_of(self.line, text)
     }
 
     /// Takes the checks of a cell.

@@ -196,11 +196,19 @@ impl<'a> Reader<'a> {
             .place(self.alloc, name.as_str(), self.line)
     }
 
+    /// The index of the pin with the last part of a name.
+    fn place_of_last(&mut self, last: &Draft) -> Result<usize, AllocError> {
+        if !last.is_whole() {
+            return Err(AllocError);
+        }
+        self.delays.pins.place(self.alloc, last.as_str())
+    }
+
     /// The pin of a word, of the present instance or of one below it.
     fn pin_of(&mut self, word: &'a str) -> Result<PinPlace, AllocError> {
         let name = parts_of(self.alloc, word, self.divider);
         let instance = self.place_below(&name.path)?;
-        let pin = self.delays.pins.place(self.alloc, name.last.as_str())?;
+        let pin = self.place_of_last(&name.last)?;
         Ok(PinPlace { instance, pin })
     }
 

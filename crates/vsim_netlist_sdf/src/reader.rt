@@ -142,10 +142,20 @@ impl<'a> Reader<'a> {
         fault_at(self.alloc, self.line, parts)
     }
 
+    /// A fault on a line, whose text was put together.
+    pub(crate) fn fault_of(&self, line: usize, told: Draft) -> Fault {
+        match told.finish() {
+            Ok(told) => fault_at(self.alloc, line, &[told.as_str()]),
+            Err(_lack) => Fault::Memory,
+        }
+    }
+
     /// The refusal of the present keyword.
     pub(crate) fn unsupported(&self) -> Fault {
-        let keyword = line_of(self.alloc, self.keyword);
-        self.fault(&["'", keyword.as_str(), "' is not supported here"])
+        let mut told = Draft::of(self.alloc, "'");
+        told.push_draft(&line_of(self.alloc, self.keyword));
+        told.push("' is not supported here");
+        self.fault_of(self.line, told)
     }
 
     /// The refusal of the present token.

@@ -2,7 +2,7 @@
 
 use crate::reader::{Corner, Reader};
 use std::alloc::Global;
-use vsim_netlist_design::{Draft, Fault, Times, fault_at, line_of};
+use vsim_netlist_design::{Draft, Fault, Times, line_of};
 use vsim_netlist_sdf_text::{Number, Token, time_of};
 
 /// The most values of a delay.
@@ -100,9 +100,12 @@ fn name_of(corner: Corner) -> &'static str {
 
 impl<'a> Reader<'a> {
     /// A fault of a value.
-    fn fault_of_value(&self, line: usize, text: &str, told: &str) -> Fault {
-        let shown = line_of(self.alloc, text);
-        fault_at(self.alloc, line, &["(", shown.as_str(), ") ", told])
+    fn fault_of_value(&self, line: usize, text: &str, told: Draft) -> Fault {
+        let mut whole = Draft::of(self.alloc, "(");
+        whole.push_draft(&line_of(self.alloc, text));
+        whole.push(") ");
+        whole.push_draft(&told);
+        self.fault_of(line, whole)
     }
 
     /// The refusal of a value that has none at this corner.
@@ -110,7 +113,7 @@ impl<'a> Reader<'a> {
         let mut told = Draft::of(self.alloc, "has no ");
         told.push_all(&[name_of(self.corner), " value"]);
         told.push_draft(&advice(self.alloc, triple));
-        self.fault_of_value(line, text, told.as_str())
+        self.fault_of_value(line, text, told)
     }
 
     /// The value at this corner. One without corners is that of all.
@@ -142,8 +145,16 @@ impl<'a> Reader<'a> {
         let value = self.at_corner(line, text)?;
         match time_of(value, self.scale) {
             Number::Time(time) => Ok(Some(self.counted(time))),
-            Number::TooLong => Err(self.fault_of_value(line, text, "is too long")),
-            Number::None => Err(self.fault_of_value(line, text, "is no value")),
+            Number::TooLong => Err(self.fault_of_value(
+                line,
+                text,
+                Draft::of(self.alloc, "is too long"),
+            )),
+            Number::None => Err(self.fault_of_value(
+                line,
+                text,
+                Draft::of(self.alloc, "is no value"),
+            )),
         }
     }
 
