@@ -22,6 +22,7 @@ use sim_flat_design::statement::Statement;
 use sim_flat_design::{Body, Held};
 use sim_flat_scope::region;
 use sim_flat_scope::scope::{Meaning, Scope};
+use sim_text_tree::list::one;
 use sim_text_tree::name::Name;
 use sim_text_tree::unit::{Process, Sensitivity};
 use sim_text_tree::waveform::ConcurrentSignalAssignment;
@@ -55,7 +56,7 @@ fn named_objects(
 ) -> Result<Items<usize>, AllocError>
     ensures { IfOk result (λ r. r ≡ spec.named_objects (means names.now.process.now names.now.architecture.now) list.now) }
 {
-    let mut found = Vec::new(alloc);
+    let mut found = Vec::with_capacity(alloc, list.len())?;
     for name in list {
         add_object(names.look_up(name.text()), &mut found)?;
     }
@@ -195,12 +196,11 @@ fn assignment_parts(
     let mut targets = Targets::new(alloc);
     add_target(names.look_up(assignment.target.text()), &mut targets)?;
     let statement = concurrent(alloc, names, &targets, assignment)?;
-    let mut statements = Items::new(alloc);
-    statements.push(statement)?;
+    let statements = one(alloc, statement)?;
     Ok(Parts {
         listed: None,
         targets,
-        statements,
+        statements: Items::from_vec(statements),
     })
 }
 

@@ -13,13 +13,21 @@ use sqlite_items::Items;
 use std::alloc::{AllocError, Global};
 use std::mem;
 
+/// No flat sources yet, with room for one: most nets have one in the end.
+fn no_source(alloc: Global) -> Result<Items<Source>, AllocError>
+    ensures { IfOk result (λ r. r ≡ []) }
+{
+    let list = Vec::with_capacity(alloc, 1)?;
+    Ok(Items::from_vec(list))
+}
+
 /// Empty lists of flat sources for this number of ports and signals.
 pub fn none(alloc: Global, count: usize) -> Result<Vec<Items<Source>>, AllocError>
     ensures { IfOk result (λ r. r.items ≡ replicate count []) }
 {
     let mut lists = Vec::with_capacity(alloc, count)?;
     for _turn in 0..count {
-        lists.push(Items::new(alloc))?;
+        lists.push(no_source(alloc)?)?;
     }
     Ok(lists)
 }
@@ -71,17 +79,14 @@ fn hand_on(
 }
 
 /// The flat sources, or this constant if there are none.
-fn finished(
-    alloc: Global,
-    constant: Logic,
-    flat_sources: Items<Source>,
-) -> Result<Items<Source>, AllocError>
+fn finished(constant: Logic, flat_sources: Items<Source>) -> Result<Items<Source>, AllocError>
     ensures { IfOk result (λ r. r ≡ spec.finished constant flat_sources) }
 {
-    if flat_sources.is_empty() {
-        return Items::from_slice(alloc, &[Source::Constant(constant)]);
+    let mut finished = flat_sources;
+    if finished.is_empty() {
+        finished.push(Source::Constant(constant))?;
     }
-    Ok(flat_sources)
+    Ok(finished)
 }
 
 /// Removes and returns the flat sources at this position.
@@ -106,7 +111,7 @@ fn net(
 ) -> Result<Net, AllocError>
     ensures { IfOk result (λ n. n ≡ record { name = prefix.now ++ object.now.name.text; sources = spec.finished constant flat_sources }) }
 {
-    let sources = finished(alloc, constant, flat_sources)?;
+    let sources = finished(constant, flat_sources)?;
     Net::new(alloc, prefix, object.name.as_str(), sources)
 }
 

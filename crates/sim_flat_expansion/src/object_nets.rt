@@ -93,7 +93,7 @@ pub fn nets_of(
 ) -> Result<Items<usize>, AllocError>
     ensures { IfOk result (λ r. r ≡ rising (nets_of object_nets.now objects.now)) }
 {
-    let mut nets = Vec::new(alloc);
+    let mut nets = Vec::with_capacity(alloc, objects.len())?;
     for object in objects {
         nets.push(net_at(object_nets, *object))?;
     }
