@@ -97,6 +97,10 @@ BODIES = [
          "            let _once = drivers.push(first);\n"
          "            let _twice = drivers.push(first);\n"
          "        }")]),
+    Body("a token has the bytes after it as well", "sim_text_tokens", "lexeme.rt", "lexeme::Lexeme::bytes", "", 1, [
+        ("        let len = end.saturating_sub(start);", "        let len = end;")]),
+    Body("a name is kept as it is written", "sim_text_tokens", "lexeme.rt", "lexeme::name_text", "", 1, [
+        ("    let word = bytes.to_ascii_lowercase(alloc)?;\n    Ok(Items::from_vec(word))", "    Items::from_slice(alloc, bytes)")]),
     Body("all processes of a net share a driver", "sim_flat_expansion", "processes.rt", "processes::targets", "loop", 1, [
         ("        let number = drivers.len();",
          "        if drivers.as_slice().iter().any(|driver| driver.net == net_at(object_nets, *target)) {\n"

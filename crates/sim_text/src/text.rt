@@ -1,69 +1,60 @@
 //! The syntax tree of a text.
 
-ghost use Rattle.std.specs.Prelude.{◌≡◌, ◌<◌, ◌↔◌, ℕ, length, Err, IfOk, IfErr, MatchResult};
+ghost use Rattle.std.specs.Prelude.{◌≡◌, ◌<◌, ◌↔◌, length, Err, IfOk, IfErr, MatchResult};
+ghost use Rattle.sim_text_tokens.specs.Cutting.{AreTokens};
+ghost use Rattle.sim_text_tokens.specs.Lexemes.{tokens_at};
 ghost use Rattle.sim_text_tokens.specs.Limits.{most_bytes};
 ghost use Rattle.sim_text_tokens.specs.declared.error.TextError.TheVariants as fault;
 ghost use Rattle.sim_text_tree.specs.DesignFile.{DesignFile};
 ghost use Rattle.sim_text_tree.specs.Grammar.{IsFile};
 ghost use Rattle.sim_text.specs.Faults.{place_of, fault_of, IsFaultOf};
-ghost use Rattle.sim_text.specs.Texts.{HasTokens, IsText, IsTextWithin, IsFault, IsFaultWithin};
+ghost use Rattle.sim_text.specs.Texts.{IsText, IsTextWithin, IsFault, IsFaultWithin};
 
 use sim_text_grammar::ParseError;
 use sim_text_reader::{Cursor, file};
-use sim_text_tokens::{MOST_BYTES, TextError, Token, tokens_within};
+use sim_text_tokens::{Lexeme, MOST_BYTES, TextError, lexemes_within};
 use sim_text_tree::DesignFile;
 use std::alloc::Global;
 
 /// The offset of the token at which `left` tokens remain; the end of the text after the last one.
-fn place_of(tokens: &[Token], left: usize, end: usize) -> usize
-    ensures { result ≡ place_of tokens.now left end }
+fn place_of(source: &[u8], lexemes: &[Lexeme], left: usize) -> usize
+    ensures { result ≡ place_of (tokens_at source.now lexemes.now) left (length source.now) }
 {
-    match tokens.get(tokens.len().saturating_sub(left)) {
-        Some(token) => token.start(),
-        None => end,
+    match lexemes.get(lexemes.len().saturating_sub(left)) {
+        Some(lexeme) => lexeme.start(),
+        None => source.len(),
     }
 }
 
 /// The fault that corresponds to a parse error, with its offset in the text.
-fn fault_of(tokens: &[Token], end: usize, error: ParseError) -> TextError
-    ensures { result ≡ fault_of tokens.now end error }
+fn fault_of(source: &[u8], lexemes: &[Lexeme], error: ParseError) -> TextError
+    ensures { result ≡ fault_of (tokens_at source.now lexemes.now) (length source.now) error }
 {
     match error {
         ParseError::OutOfMemory => TextError::Memory,
         ParseError::Syntax(left) => TextError::Syntax {
-            at: place_of(tokens, left, end),
+            at: place_of(source, lexemes, left),
         },
         ParseError::TooDeep(left) => TextError::TooDeep {
-            at: place_of(tokens, left, end),
+            at: place_of(source, lexemes, left),
         },
         ParseError::TimeRange(left) => TextError::TimeRange {
-            at: place_of(tokens, left, end),
+            at: place_of(source, lexemes, left),
         },
     }
 }
 
-/// The file that these tokens spell. Its names are moved out of them.
-fn file_of(alloc: Global, tokens: Vec<Token>) -> Result<DesignFile, ParseError>
-    ensures found { IfOk result (λ file. IsFile file tokens.items) }
+/// The file that the tokens of a text spell.
+fn file_of(alloc: Global, source: &[u8], lexemes: &[Lexeme]) -> Result<DesignFile, TextError>
+    requires { AreTokens source.now (tokens_at source.now lexemes.now) }
+    ensures found { IfOk result (λ file. IsFile file (tokens_at source.now lexemes.now)) }
     // No other file is spelled by these tokens.
-    ensures only { IfOk result (λ file. (other : DesignFile) → IsFile other tokens.items → other ≡ file) }
-    ensures refused { IfErr result (λ e. (end : ℕ) → IsFaultOf tokens.items end (fault_of tokens.items end e)) }
+    ensures only { IfOk result (λ file. (other : DesignFile) → IsFile other (tokens_at source.now lexemes.now) → other ≡ file) }
+    ensures refused { IfErr result (λ e. IsFaultOf (tokens_at source.now lexemes.now) (length source.now) e) }
 {
-    file(alloc, &mut Cursor::new(tokens))
-}
-
-/// The fault of a text that a reader refused. The reader has consumed the tokens, so the text is
-/// divided into tokens again to find the offset.
-fn fault_in(alloc: Global, source: &[u8], bytes: usize, error: ParseError) -> TextError
-    requires { HasTokens bytes source.now (λ tokens. IsFaultOf tokens (length source.now) (fault_of tokens (length source.now) error)) }
-    ensures { IsFaultWithin bytes source.now result }
-{
-    if matches!(error, ParseError::OutOfMemory) {
-        return TextError::Memory;
-    }
-    match tokens_within(alloc, source, bytes) {
-        Ok(tokens) => fault_of(tokens.as_slice(), source.len(), error),
-        Err(fault) => fault,
+    match file(alloc, &mut Cursor::new(alloc, source, lexemes)) {
+        Ok(found) => Ok(found),
+        Err(error) => Err(fault_of(source, lexemes, error)),
     }
 }
 
@@ -80,11 +71,8 @@ pub fn parse_within(alloc: Global, source: &[u8], bytes: usize) -> Result<Design
     ensures only { IfOk result (λ file. (other : DesignFile) → IsTextWithin bytes source.now other → other ≡ file) }
     ensures too_long { (result ≡ Err fault.TooLong) ↔ (bytes < length source.now) }
 {
-    let tokens = tokens_within(alloc, source, bytes)?;
-    match file_of(alloc, tokens) {
-        Ok(found) => Ok(found),
-        Err(error) => Err(fault_in(alloc, source, bytes, error)),
-    }
+    let lexemes = lexemes_within(alloc, source, bytes)?;
+    file_of(alloc, source, lexemes.as_slice())
 }
 
 /// The design file of a text of at most 1,048,576 bytes; refusals as those of `parse_within`.

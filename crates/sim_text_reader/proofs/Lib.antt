@@ -1,3 +1,4 @@
 mod Parts
+mod Spelled
 mod StatementParts
 mod UnitParts

@@ -1,8 +1,9 @@
--- The value of a cursor.
+-- What is held of the tokens that a cursor reads.
 -- Implementation only: what `simulate` promises does not rest on this file.
+use Rattle.std.specs.List.{All}
+use Rattle.sim_text_tokens.specs.Token.{HasWord}
 use Rattle.sim_text_tree.specs.Input.{Input}
-use Rattle.sim_text_reader.specs.declared.cursor.Cursor.{Cursor}
 
--- the remaining tokens of a cursor
-abbrev pub view : Cursor → Input
-view c = c.rest.items
+-- The text of each word among the tokens is a word.
+abbrev pub AreSpelled : Input → Type 0
+AreSpelled tokens = All (λ t. HasWord t.kind t.text) tokens

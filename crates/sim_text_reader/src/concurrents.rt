@@ -7,7 +7,6 @@ ghost use Rattle.sim_text_tree.specs.Input.{kind};
 ghost use Rattle.sim_text_tokens.specs.declared.kind.Kind.TheVariants as k;
 ghost use Rattle.sim_text_grammar.specs.Statements.{statements};
 ghost use Rattle.sim_text_grammar.specs.Readers.{Reads, and_then, pure, expect};
-ghost use Rattle.sim_text_reader.specs.Cursors.{view};
 
 use crate::cursor::{Cursor, both};
 use crate::declarations::{names, variables};
@@ -28,8 +27,8 @@ use std::alloc::Global;
 
 /// `sens = all | id {, id}`
 #[tactic(auto, unfolding(sim_text_grammar::specs::Concurrents::sensitivity))]
-fn sensitivity(alloc: Global, tokens: &mut Cursor) -> Result<Sensitivity, ParseError>
-    ensures { Reads (spec.sensitivity (view tokens.old)) result (view tokens.new) }
+fn sensitivity(alloc: Global, tokens: &mut Cursor<'_>) -> Result<Sensitivity, ParseError>
+    ensures { Reads (spec.sensitivity tokens.old) result tokens.new }
 {
     if tokens.eat(Kind::All) {
         return Ok(Sensitivity::All);
@@ -39,16 +38,19 @@ fn sensitivity(alloc: Global, tokens: &mut Cursor) -> Result<Sensitivity, ParseE
 }
 
 /// `begin {seq}`
-fn process_statements(alloc: Global, tokens: &mut Cursor) -> Result<Items<Sequential>, ParseError>
-    ensures { Reads (and_then (expect k.Begin (view tokens.old)) (λ _. statements)) result (view tokens.new) }
+fn process_statements(
+    alloc: Global,
+    tokens: &mut Cursor<'_>,
+) -> Result<Items<Sequential>, ParseError>
+    ensures { Reads (and_then (expect k.Begin tokens.old) (λ _. statements)) result tokens.new }
 {
     tokens.expect(Kind::Begin)?;
     statements(alloc, tokens)
 }
 
 /// `[postponed]` at the end of a process; only a postponed process can have it.
-fn postponed_again(tokens: &mut Cursor, postponed: bool) -> bool
-    ensures { spec.postponed_again postponed (view tokens.old) ≡ Ok (result, view tokens.new) }
+fn postponed_again(tokens: &mut Cursor<'_>, postponed: bool) -> bool
+    ensures { spec.postponed_again postponed tokens.old ≡ Ok (result, tokens.new) }
 {
     if !postponed {
         return false;
@@ -57,9 +59,9 @@ fn postponed_again(tokens: &mut Cursor, postponed: bool) -> bool
 }
 
 /// `end [postponed] process`
-fn process_ended(tokens: &mut Cursor, postponed: bool) -> Result<bool, ParseError>
-    ensures { Reads (and_then (expect k.End (view tokens.old)) (λ _ i. and_then (spec.postponed_again postponed i) (λ again i.
-        and_then (expect k.Process i) (λ _. pure again)))) result (view tokens.new) }
+fn process_ended(tokens: &mut Cursor<'_>, postponed: bool) -> Result<bool, ParseError>
+    ensures { Reads (and_then (expect k.End tokens.old) (λ _ i. and_then (spec.postponed_again postponed i) (λ again i.
+        and_then (expect k.Process i) (λ _. pure again)))) result tokens.new }
 {
     tokens.expect(Kind::End)?;
     let again = postponed_again(tokens, postponed);
@@ -69,14 +71,14 @@ fn process_ended(tokens: &mut Cursor, postponed: bool) -> Result<bool, ParseErro
 /// `begin {seq} end [postponed] process [NAME] ;`
 fn process_body(
     alloc: Global,
-    tokens: &mut Cursor,
+    tokens: &mut Cursor<'_>,
     label: Option<Name>,
     postponed: bool,
     sensitivity: Sensitivity,
     is: bool,
     variables: Items<ObjectDeclaration>,
 ) -> Result<Process, ParseError>
-    ensures { Reads (spec.process_body label postponed sensitivity is variables (view tokens.old)) result (view tokens.new) }
+    ensures { Reads (spec.process_body label postponed sensitivity is variables tokens.old) result tokens.new }
 {
     let statements = process_statements(alloc, tokens)?;
     let postponed_repeated = process_ended(tokens, postponed)?;
@@ -94,8 +96,8 @@ fn process_body(
 }
 
 /// Reads a sensitivity list and the parenthesis after it.
-fn sensitivity_closed(alloc: Global, tokens: &mut Cursor) -> Result<Sensitivity, ParseError>
-    ensures { Reads (and_then (spec.sensitivity (view tokens.old)) (λ found i. and_then (expect k.RightParen i) (λ _. pure found))) result (view tokens.new) }
+fn sensitivity_closed(alloc: Global, tokens: &mut Cursor<'_>) -> Result<Sensitivity, ParseError>
+    ensures { Reads (and_then (spec.sensitivity tokens.old) (λ found i. and_then (expect k.RightParen i) (λ _. pure found))) result tokens.new }
 {
     let sensitivity = sensitivity(alloc, tokens)?;
     tokens.past(Kind::RightParen, sensitivity)
@@ -104,11 +106,11 @@ fn sensitivity_closed(alloc: Global, tokens: &mut Cursor) -> Result<Sensitivity,
 /// `process ( sens ) [is] {var} begin {seq} end [postponed] process [NAME] ;`
 fn process(
     alloc: Global,
-    tokens: &mut Cursor,
+    tokens: &mut Cursor<'_>,
     label: Option<Name>,
     postponed: bool,
 ) -> Result<Process, ParseError>
-    ensures { Reads (spec.process label postponed (view tokens.old)) result (view tokens.new) }
+    ensures { Reads (spec.process label postponed tokens.old) result tokens.new }
 {
     tokens.expect_both(Kind::Process, Kind::LeftParen)?;
     let sensitivity = sensitivity_closed(alloc, tokens)?;
@@ -119,8 +121,8 @@ fn process(
 
 /// `actual = id | lit | open`
 #[tactic(auto, unfolding(sim_text_grammar::specs::Concurrents::actual))]
-fn actual(tokens: &mut Cursor) -> Result<Actual, ParseError>
-    ensures { Reads (spec.actual (view tokens.old)) result (view tokens.new) }
+fn actual(tokens: &mut Cursor<'_>) -> Result<Actual, ParseError>
+    ensures { Reads (spec.actual tokens.old) result tokens.new }
 {
     match tokens.peek() {
         Kind::Literal => {
@@ -134,8 +136,8 @@ fn actual(tokens: &mut Cursor) -> Result<Actual, ParseError>
 
 /// `actual`, after the formal and its `=>`.
 #[tactic(auto, unfolding(sim_text_grammar::specs::Concurrents::associated))]
-fn associated(tokens: &mut Cursor, formal: Name) -> Result<Association, ParseError>
-    ensures { Reads (spec.associated formal (view tokens.old)) result (view tokens.new) }
+fn associated(tokens: &mut Cursor<'_>, formal: Name) -> Result<Association, ParseError>
+    ensures { Reads (spec.associated formal tokens.old) result tokens.new }
 {
     let actual = actual(tokens)?;
     Ok(Association {
@@ -146,8 +148,8 @@ fn associated(tokens: &mut Cursor, formal: Name) -> Result<Association, ParseErr
 
 /// `id => actual`
 #[tactic(auto, unfolding(sim_text_grammar::specs::Concurrents::named_association))]
-fn named_association(tokens: &mut Cursor) -> Result<Association, ParseError>
-    ensures { Reads (spec.named_association (view tokens.old)) result (view tokens.new) }
+fn named_association(tokens: &mut Cursor<'_>) -> Result<Association, ParseError>
+    ensures { Reads (spec.named_association tokens.old) result tokens.new }
 {
     let formal = tokens.word()?;
     tokens.expect(Kind::Arrow)?;
@@ -156,8 +158,8 @@ fn named_association(tokens: &mut Cursor) -> Result<Association, ParseError>
 
 /// `actual | id => actual`
 #[tactic(auto, unfolding(sim_text_grammar::specs::Concurrents::free_association))]
-fn free_association(tokens: &mut Cursor) -> Result<Association, ParseError>
-    ensures { Reads (spec.free_association (view tokens.old)) result (view tokens.new) }
+fn free_association(tokens: &mut Cursor<'_>) -> Result<Association, ParseError>
+    ensures { Reads (spec.free_association tokens.old) result tokens.new }
 {
     match tokens.peek() {
         Kind::Word => {
@@ -183,8 +185,8 @@ fn free_association(tokens: &mut Cursor) -> Result<Association, ParseError>
 
 /// `id => actual` after an association with a formal; otherwise either form.
 #[tactic(auto, unfolding(sim_text_grammar::specs::Concurrents::association))]
-fn association(tokens: &mut Cursor, named: bool) -> Result<Association, ParseError>
-    ensures { Reads (spec.association named (view tokens.old)) result (view tokens.new) }
+fn association(tokens: &mut Cursor<'_>, named: bool) -> Result<Association, ParseError>
+    ensures { Reads (spec.association named tokens.old) result tokens.new }
 {
     if named {
         named_association(tokens)
@@ -205,8 +207,8 @@ fn is_named(formal: &Option<Name>) -> bool
 
 /// `assocs = actual {, actual} {, id => actual} | id => actual {, id => actual}`
 #[tactic(auto, unfolding(sim_text_grammar::specs::Concurrents::associations))]
-fn associations(alloc: Global, tokens: &mut Cursor) -> Result<Items<Association>, ParseError>
-    ensures { Reads (spec.associations (view tokens.old)) result (view tokens.new) }
+fn associations(alloc: Global, tokens: &mut Cursor<'_>) -> Result<Items<Association>, ParseError>
+    ensures { Reads (spec.associations tokens.old) result tokens.new }
 {
     let mut found = Vec::new(alloc);
     let mut named = false;
@@ -222,8 +224,8 @@ fn associations(alloc: Global, tokens: &mut Cursor) -> Result<Items<Association>
 }
 
 /// `[port map ( assocs )]`; without it there are no associations.
-fn port_map(alloc: Global, tokens: &mut Cursor) -> Result<Items<Association>, ParseError>
-    ensures { Reads (spec.port_map (view tokens.old)) result (view tokens.new) }
+fn port_map(alloc: Global, tokens: &mut Cursor<'_>) -> Result<Items<Association>, ParseError>
+    ensures { Reads (spec.port_map tokens.old) result tokens.new }
 {
     if !tokens.eat(Kind::Port) {
         return Ok(Items::new(alloc));
@@ -234,8 +236,8 @@ fn port_map(alloc: Global, tokens: &mut Cursor) -> Result<Items<Association>, Pa
 }
 
 /// Reads a port map, if one is written, and the semicolon after it.
-fn port_map_ended(alloc: Global, tokens: &mut Cursor) -> Result<Items<Association>, ParseError>
-    ensures { Reads (and_then (spec.port_map (view tokens.old)) (λ found i. and_then (expect k.Semicolon i) (λ _. pure found))) result (view tokens.new) }
+fn port_map_ended(alloc: Global, tokens: &mut Cursor<'_>) -> Result<Items<Association>, ParseError>
+    ensures { Reads (and_then (spec.port_map tokens.old) (λ found i. and_then (expect k.Semicolon i) (λ _. pure found))) result tokens.new }
 {
     let associations = port_map(alloc, tokens)?;
     tokens.past(Kind::Semicolon, associations)
@@ -244,11 +246,11 @@ fn port_map_ended(alloc: Global, tokens: &mut Cursor) -> Result<Items<Associatio
 /// `[pmap] ;`, after the label and the component or entity.
 fn instance(
     alloc: Global,
-    tokens: &mut Cursor,
+    tokens: &mut Cursor<'_>,
     label: Name,
     unit: Instantiated,
 ) -> Result<Concurrent, ParseError>
-    ensures { Reads (spec.instance label unit (view tokens.old)) result (view tokens.new) }
+    ensures { Reads (spec.instance label unit tokens.old) result tokens.new }
 {
     let (unit, associations) = both(unit, port_map_ended(alloc, tokens))?;
     Ok(Concurrent::Instance(Instance {
@@ -260,8 +262,8 @@ fn instance(
 
 /// `[( id )]`: the architecture of an instantiated entity.
 #[tactic(auto, unfolding(sim_text_grammar::specs::Concurrents::chosen))]
-fn chosen(tokens: &mut Cursor) -> Result<Option<Name>, ParseError>
-    ensures { Reads (spec.chosen (view tokens.old)) result (view tokens.new) }
+fn chosen(tokens: &mut Cursor<'_>) -> Result<Option<Name>, ParseError>
+    ensures { Reads (spec.chosen tokens.old) result tokens.new }
 {
     if !tokens.eat(Kind::LeftParen) {
         return Ok(None);
@@ -271,8 +273,8 @@ fn chosen(tokens: &mut Cursor) -> Result<Option<Name>, ParseError>
 }
 
 /// `entity id . id [( id )]`
-fn entity_named(tokens: &mut Cursor) -> Result<Instantiated, ParseError>
-    ensures { Reads (spec.entity_named (view tokens.old)) result (view tokens.new) }
+fn entity_named(tokens: &mut Cursor<'_>) -> Result<Instantiated, ParseError>
+    ensures { Reads (spec.entity_named tokens.old) result tokens.new }
 {
     tokens.take();
     let library = tokens.word()?;
@@ -289,12 +291,12 @@ fn entity_named(tokens: &mut Cursor) -> Result<Instantiated, ParseError>
 #[tactic(auto, unfolding(sim_text_grammar::specs::Concurrents::concurrent_assigned))]
 fn concurrent_assigned(
     alloc: Global,
-    tokens: &mut Cursor,
+    tokens: &mut Cursor<'_>,
     label: Option<Name>,
     postponed: bool,
     target: Name,
 ) -> Result<Concurrent, ParseError>
-    ensures { Reads (spec.concurrent_assigned label postponed target (view tokens.old)) result (view tokens.new) }
+    ensures { Reads (spec.concurrent_assigned label postponed target tokens.old) result tokens.new }
 {
     let found = assigned(alloc, tokens, label, postponed, target)?;
     Ok(Concurrent::Assignment(found))
@@ -305,11 +307,11 @@ fn concurrent_assigned(
 #[tactic(auto, unfolding(sim_text_grammar::specs::Concurrents::concurrent_process))]
 fn concurrent_process(
     alloc: Global,
-    tokens: &mut Cursor,
+    tokens: &mut Cursor<'_>,
     label: Option<Name>,
     postponed: bool,
 ) -> Result<Concurrent, ParseError>
-    ensures { Reads (spec.concurrent_process label postponed (view tokens.old)) result (view tokens.new) }
+    ensures { Reads (spec.concurrent_process label postponed tokens.old) result tokens.new }
 {
     let found = process(alloc, tokens, label, postponed)?;
     Ok(Concurrent::Process(found))
@@ -319,10 +321,10 @@ fn concurrent_process(
 #[tactic(auto, unfolding(sim_text_grammar::specs::Concurrents::postponed))]
 fn postponed(
     alloc: Global,
-    tokens: &mut Cursor,
+    tokens: &mut Cursor<'_>,
     label: Option<Name>,
 ) -> Result<Concurrent, ParseError>
-    ensures { Reads (spec.postponed label (view tokens.old)) result (view tokens.new) }
+    ensures { Reads (spec.postponed label tokens.old) result tokens.new }
 {
     tokens.take();
     match tokens.peek() {
@@ -337,11 +339,11 @@ fn postponed(
 /// Reads an assignment to this name, or an instance of the component with this name.
 fn after_name(
     alloc: Global,
-    tokens: &mut Cursor,
+    tokens: &mut Cursor<'_>,
     label: Name,
     name: Name,
 ) -> Result<Concurrent, ParseError>
-    ensures { Reads (spec.target_by label name (kind (view tokens.old)) (view tokens.old)) result (view tokens.new) }
+    ensures { Reads (spec.target_by label name (kind tokens.old) tokens.old) result tokens.new }
 {
     match tokens.peek() {
         Kind::SignalAssign => concurrent_assigned(alloc, tokens, Some(label), false, name),
@@ -359,8 +361,8 @@ fn after_name(
 
 /// `conc`, after its label and the colon.
 #[tactic(auto, unfolding(sim_text_grammar::specs::Concurrents::labelled))]
-fn labelled(alloc: Global, tokens: &mut Cursor, label: Name) -> Result<Concurrent, ParseError>
-    ensures { Reads (spec.labelled label (view tokens.old)) result (view tokens.new) }
+fn labelled(alloc: Global, tokens: &mut Cursor<'_>, label: Name) -> Result<Concurrent, ParseError>
+    ensures { Reads (spec.labelled label tokens.old) result tokens.new }
 {
     match tokens.peek() {
         Kind::Process => concurrent_process(alloc, tokens, Some(label), false),
@@ -390,8 +392,12 @@ fn labelled(alloc: Global, tokens: &mut Cursor, label: Name) -> Result<Concurren
 }
 
 /// Reads an assignment to this name, or a statement with this label.
-fn after_first(alloc: Global, tokens: &mut Cursor, first: Name) -> Result<Concurrent, ParseError>
-    ensures { Reads (spec.first_by first (kind (view tokens.old)) (view tokens.old)) result (view tokens.new) }
+fn after_first(
+    alloc: Global,
+    tokens: &mut Cursor<'_>,
+    first: Name,
+) -> Result<Concurrent, ParseError>
+    ensures { Reads (spec.first_by first (kind tokens.old) tokens.old) result tokens.new }
 {
     match tokens.peek() {
         Kind::SignalAssign => concurrent_assigned(alloc, tokens, None, false, first),
@@ -404,8 +410,8 @@ fn after_first(alloc: Global, tokens: &mut Cursor, first: Name) -> Result<Concur
 
 /// `conc`: an assignment, a process or an instance.
 #[tactic(auto, unfolding(sim_text_grammar::specs::Concurrents::concurrent))]
-fn concurrent(alloc: Global, tokens: &mut Cursor) -> Result<Concurrent, ParseError>
-    ensures { Reads (spec.concurrent (view tokens.old)) result (view tokens.new) }
+fn concurrent(alloc: Global, tokens: &mut Cursor<'_>) -> Result<Concurrent, ParseError>
+    ensures { Reads (spec.concurrent tokens.old) result tokens.new }
 {
     match tokens.peek() {
         Kind::Process => concurrent_process(alloc, tokens, None, false),
@@ -426,8 +432,8 @@ fn begins_concurrent(kind: Kind) -> bool
 
 /// Reads the statements of an architecture (IEEE 1076-2008, 11.1).
 #[tactic(auto, unfolding(sim_text_grammar::specs::Concurrents::concurrents, sim_text_grammar::specs::Readers::many))]
-pub fn concurrents(alloc: Global, tokens: &mut Cursor) -> Result<Items<Concurrent>, ParseError>
-    ensures { Reads (spec.concurrents (view tokens.old)) result (view tokens.new) }
+pub fn concurrents(alloc: Global, tokens: &mut Cursor<'_>) -> Result<Items<Concurrent>, ParseError>
+    ensures { Reads (spec.concurrents tokens.old) result tokens.new }
 {
     let mut found = Vec::new(alloc);
     for _turn in 0..tokens.left() {

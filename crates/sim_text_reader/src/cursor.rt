@@ -1,47 +1,67 @@
 //! A cursor over the tokens of a text.
 
-ghost use Rattle.std.specs.Prelude.{◌≡◌, Ok, Err, List, [], ◌∷◌, ◌↔◌, true, false, IsTrue, IfNone, IfSome, IfOk, IfErr};
-ghost use Rattle.sim_text_tokens.specs.Token.{Token};
+ghost use Rattle.std.specs.Prelude.{◌≡◌, Ok, Err, IfOk, IfErr};
 ghost use Rattle.sim_text_tree.specs.Input as input;
 ghost use Rattle.sim_text_grammar.specs.Readers as spec;
 ghost use Rattle.sim_text_grammar.specs.Readers.{Reads};
-ghost use Rattle.sim_text_reader.specs.Cursors.{view};
 
 use sim_logic::{Logic, Unit};
 use sim_text_grammar::ParseError;
-use sim_text_tokens::{Kind, Token};
+use sim_text_tokens::{Kind, Lexeme, Token};
 use sim_text_tree::name::Name;
 use sqlite_items::Items;
-use std::collections::VecDeque;
+use std::alloc::Global;
+use std::marker::Model;
 
-/// The remaining tokens. A token that is read leaves the cursor, so that its text can be moved into
-/// the tree.
+/// The remaining tokens of a text. A token gets a text of its own when it is read.
 #[derive(Drop)]
-pub struct Cursor {
-    rest: VecDeque<Token>,
+pub struct Cursor<'t> {
+    alloc: Global,
+    source: &'t [u8],
+    rest: &'t [Lexeme],
 }
 
-impl Cursor {
-    /// A cursor at the first of these tokens.
-    pub fn new(tokens: Vec<Token>) -> Cursor
-        ensures { view result ≡ tokens.items }
+impl<'t> Model for Cursor<'t> {
+    ghost use Rattle.sim_text_tokens.specs.Lexemes.{tokens_at};
+    ghost use Rattle.sim_text_tree.specs.Input.{Input};
+    ghost use Rattle.sim_text_reader.specs.Cursors.{AreSpelled};
+
+    ghost Value = { Input };
+
+    ghost view = { λ c. tokens_at c.source.now c.rest.now };
+
+    ghost invariant = { λ c. AreSpelled (tokens_at c.source.now c.rest.now) };
+}
+
+impl<'t> Cursor<'t> {
+    ghost use Rattle.std.specs.Prelude.{◌≡◌, Ok, Err, List, [], ◌∷◌, ◌↔◌, true, false, IsTrue, IfNone, IfSome, IfOk, IfErr};
+    ghost use Rattle.sim_text_tokens.specs.Cutting.{AreTokens};
+    ghost use Rattle.sim_text_tokens.specs.Lexemes.{tokens_at};
+    ghost use Rattle.sim_text_tokens.specs.Token.{Token};
+
+    /// A cursor at the first token of a text, whose tokens these are.
+    pub fn new(alloc: Global, source: &'t [u8], lexemes: &'t [Lexeme]) -> Cursor<'t>
+        requires { AreTokens source.now (tokens_at source.now lexemes.now) }
+        ensures { result ≡ tokens_at source.now lexemes.now }
     {
         Cursor {
-            rest: VecDeque::from_vec(tokens),
+            alloc,
+            source,
+            rest: lexemes,
         }
     }
 
     /// The number of remaining tokens.
     #[tactic(auto, unfolding(sim_text_grammar::specs::Readers::left))]
     pub fn left(&self) -> usize
-        ensures { result ≡ spec.left (view self.now) }
+        ensures { result ≡ spec.left self.now }
     {
         self.rest.len()
     }
 
     /// Whether no token remains.
     pub fn is_empty(&self) -> bool
-        ensures { IsTrue result ↔ (view self.now ≡ []) }
+        ensures { IsTrue result ↔ (self.now ≡ []) }
     {
         self.rest.is_empty()
     }
@@ -49,30 +69,33 @@ impl Cursor {
     /// The kind of the next token.
     #[tactic(auto, unfolding(sim_text_tree::specs::Input::kind))]
     pub fn peek(&self) -> Kind
-        ensures { result ≡ input.kind (view self.now) }
+        ensures { result ≡ input.kind self.now }
     {
-        match self.rest.front() {
-            Some(token) => token.kind(),
-            None => Kind::EndOfText,
+        match self.rest {
+            [lexeme, ..] => lexeme.kind(),
+            [] => Kind::EndOfText,
         }
     }
 
     /// Consumes the next token and returns its offset.
     #[tactic(auto, unfolding(sim_text_tree::specs::Input::next, sim_text_tree::specs::Input::place))]
     pub fn take(&mut self) -> usize
-        ensures place { result ≡ input.place (view self.old) }
-        ensures next { view self.new ≡ input.next (view self.old) }
+        ensures place { result ≡ input.place self.old }
+        ensures next { self.new ≡ input.next self.old }
     {
-        match self.rest.pop_front() {
-            Some(token) => token.start(),
-            None => 0,
+        match self.rest {
+            [lexeme, rest @ ..] => {
+                self.rest = rest;
+                lexeme.start()
+            }
+            [] => 0,
         }
     }
 
     /// Whether the next token is of this kind.
     #[tactic(auto, unfolding(sim_text_grammar::specs::Readers::sees))]
     pub fn sees(&self, kind: Kind) -> bool
-        ensures { result ≡ spec.sees kind (view self.now) }
+        ensures { result ≡ spec.sees kind self.now }
     {
         same_kind(self.peek(), kind)
     }
@@ -80,7 +103,7 @@ impl Cursor {
     /// Consumes the next token if it is of this kind, and returns whether it was.
     #[tactic(auto, unfolding(sim_text_grammar::specs::Readers::eat))]
     pub fn eat(&mut self, kind: Kind) -> bool
-        ensures { spec.eat kind (view self.old) ≡ Ok (result, view self.new) }
+        ensures { spec.eat kind self.old ≡ Ok (result, self.new) }
     {
         let found = self.sees(kind);
         if found {
@@ -92,7 +115,7 @@ impl Cursor {
     /// Consumes a token of this kind and returns its offset. `Syntax` if another token is next.
     #[tactic(auto, unfolding(sim_text_grammar::specs::Readers::expect, sim_text_grammar::specs::Readers::left))]
     pub fn expect(&mut self, kind: Kind) -> Result<usize, ParseError>
-        ensures { Reads (spec.expect kind (view self.old)) result (view self.new) }
+        ensures { Reads (spec.expect kind self.old) result self.new }
     {
         if self.sees(kind) {
             Ok(self.take())
@@ -104,7 +127,7 @@ impl Cursor {
     /// Consumes a token of the first kind and one of the second, and returns the offset of the
     /// second. `Syntax` if another token is next.
     pub fn expect_both(&mut self, first: Kind, second: Kind) -> Result<usize, ParseError>
-        ensures { Reads (spec.and_then (spec.expect first (view self.old)) (λ _. spec.expect second)) result (view self.new) }
+        ensures { Reads (spec.and_then (spec.expect first self.old) (λ _. spec.expect second)) result self.new }
     {
         self.expect(first)?;
         self.expect(second)
@@ -113,7 +136,7 @@ impl Cursor {
     /// Consumes a token of this kind and returns `found`, which was read before it. `Syntax` if
     /// another token is next.
     pub fn past<T: Drop>(&mut self, kind: Kind, found: T) -> Result<T, ParseError>
-        ensures { Reads (spec.and_then (spec.expect kind (view self.old)) (λ _. spec.pure found)) result (view self.new) }
+        ensures { Reads (spec.and_then (spec.expect kind self.old) (λ _. spec.pure found)) result self.new }
     {
         self.expect(kind)?;
         Ok(found)
@@ -122,110 +145,101 @@ impl Cursor {
     /// Consumes a token of this kind and reads the name after it. `Syntax` if another token is
     /// next.
     pub fn word_after(&mut self, kind: Kind) -> Result<Name, ParseError>
-        ensures { Reads (spec.and_then (spec.expect kind (view self.old)) (λ _. spec.word)) result (view self.new) }
+        ensures { Reads (spec.and_then (spec.expect kind self.old) (λ _. spec.word)) result self.new }
     {
         self.expect(kind)?;
         self.word()
     }
 
-    /// Takes the next token if it is of this kind.
-    fn next_of(&mut self, kind: Kind) -> Option<Token>
-        ensures left { IfNone result (view self.new ≡ view self.old) }
-        ensures none { IfNone result ((t : Token) (rest : List Token) → view self.old ≡ t ∷ rest → spec.same_kind t.kind kind ≡ false) }
-        ensures some { IfSome result (λ t. (view self.old ≡ t ∷ view self.new) × (spec.same_kind t.kind kind ≡ true)) }
+    /// The next token with its text, if it is of this kind.
+    #[tactic(auto, unfolding(sim_text_tree::specs::Input::place))]
+    fn next_of(&self, kind: Kind) -> Result<Option<Token>, ParseError>
+        ensures some { IfOk result (λ o. IfSome o (λ t. (rest : List Token) × (self.now ≡ t ∷ rest) × (spec.same_kind t.kind kind ≡ true))) }
+        ensures place { IfOk result (λ o. IfSome o (λ t. t.start ≡ input.place self.now)) }
+        ensures none { IfOk result (λ o. IfNone o ((t : Token) (rest : List Token) → self.now ≡ t ∷ rest → spec.same_kind t.kind kind ≡ false)) }
+        ensures err { IfErr result (λ e. e ≡ ParseError.OutOfMemory) }
     {
-        match self.rest.front() {
-            Some(token) if same_kind(token.kind(), kind) => self.rest.pop_front(),
-            _ => None,
+        match self.rest {
+            [lexeme, ..] if same_kind(lexeme.kind(), kind) => {
+                let token = lexeme.to_token(self.alloc, self.source)?;
+                Ok(Some(token))
+            }
+            _ => Ok(None),
         }
     }
 
     /// Reads a name. `Syntax` if no name is next.
-    #[tactic(auto, unfolding(sim_text_grammar::specs::Readers::word, sim_text_grammar::specs::Readers::left))]
+    #[tactic(auto, unfolding(sim_text_grammar::specs::Readers::word, sim_text_grammar::specs::Readers::left, sim_text_tree::specs::Input::next))]
     pub fn word(&mut self) -> Result<Name, ParseError>
-        ensures { Reads (spec.word (view self.old)) result (view self.new) }
+        ensures { Reads (spec.word self.old) result self.new }
     {
-        match self.next_of(Kind::Word) {
-            Some(token) => Ok(Name::of(token)),
-            None => Err(ParseError::Syntax(self.left())),
-        }
+        let Some(token) = self.next_of(Kind::Word)? else {
+            return Err(ParseError::Syntax(self.left()));
+        };
+        self.take();
+        Ok(Name::of(token))
     }
 
     /// Reads a character literal; also returns its offset. `Syntax` if none is next.
     #[tactic(auto, unfolding(sim_text_grammar::specs::Readers::literal, sim_text_grammar::specs::Readers::left, sim_text_tree::specs::Input::next))]
     pub fn literal(&mut self) -> Result<(Logic, usize), ParseError>
-        ensures { Reads (spec.literal (view self.old)) result (view self.new) }
+        ensures { Reads (spec.literal self.old) result self.new }
     {
-        match self.rest.front() {
-            Some(token) if same_kind(token.kind(), Kind::Literal) => {
-                match logic_of(token.text()) {
-                    Some(value) => {
-                        let at = token.start();
-                        self.take();
-                        Ok((value, at))
-                    }
-                    None => Err(ParseError::Syntax(self.left())),
-                }
-            }
-            _ => Err(ParseError::Syntax(self.left())),
-        }
+        let Some(token) = self.next_of(Kind::Literal)? else {
+            return Err(ParseError::Syntax(self.left()));
+        };
+        let Some(value) = logic_of(token.text()) else {
+            return Err(ParseError::Syntax(self.left()));
+        };
+        Ok((value, self.take()))
     }
 
     /// Reads a number; returns its digits and its offset. `Syntax` if none is next.
-    #[tactic(auto, unfolding(sim_text_grammar::specs::Readers::number, sim_text_grammar::specs::Readers::left))]
+    #[tactic(auto, unfolding(sim_text_grammar::specs::Readers::number, sim_text_grammar::specs::Readers::left, sim_text_tree::specs::Input::next))]
     pub fn number(&mut self) -> Result<(Items<u8>, usize), ParseError>
-        ensures { Reads (spec.number (view self.old)) result (view self.new) }
+        ensures { Reads (spec.number self.old) result self.new }
     {
-        match self.next_of(Kind::Number) {
-            Some(token) => {
-                let at = token.start();
-                Ok((token.into_text(), at))
-            }
-            None => Err(ParseError::Syntax(self.left())),
-        }
+        let Some(token) = self.next_of(Kind::Number)? else {
+            return Err(ParseError::Syntax(self.left()));
+        };
+        let at = self.take();
+        Ok((token.into_text(), at))
     }
 
     /// Reads a unit of time (5.2.4). `Syntax` if the next token is none.
     #[tactic(auto, unfolding(sim_text_grammar::specs::Readers::unit, sim_text_grammar::specs::Readers::left, sim_text_tree::specs::Input::next))]
     pub fn unit(&mut self) -> Result<Unit, ParseError>
-        ensures { Reads (spec.unit (view self.old)) result (view self.new) }
+        ensures { Reads (spec.unit self.old) result self.new }
     {
-        match self.rest.front() {
-            Some(token) if same_kind(token.kind(), Kind::Word) => {
-                match unit_in(token.text()) {
-                    Some(unit) => {
-                        self.take();
-                        Ok(unit)
-                    }
-                    None => Err(ParseError::Syntax(self.left())),
-                }
-            }
-            _ => Err(ParseError::Syntax(self.left())),
-        }
+        let Some(token) = self.next_of(Kind::Word)? else {
+            return Err(ParseError::Syntax(self.left()));
+        };
+        let Some(unit) = unit_in(token.text()) else {
+            return Err(ParseError::Syntax(self.left()));
+        };
+        self.take();
+        Ok(unit)
     }
 
     /// Consumes this word. `Syntax` if another token is next.
     #[tactic(auto, unfolding(sim_text_grammar::specs::Readers::repeat, sim_text_grammar::specs::Readers::left, sim_text_tree::specs::Input::next))]
     pub fn repeat(&mut self, text: &[u8]) -> Result<(), ParseError>
-        ensures { Reads (spec.repeat text.now (view self.old)) result (view self.new) }
+        ensures { Reads (spec.repeat text.now self.old) result self.new }
     {
-        match self.rest.front() {
-            Some(token) if same_kind(token.kind(), Kind::Word) => {
-                if token.text() == text {
-                    self.take();
-                    Ok(())
-                } else {
-                    Err(ParseError::Syntax(self.left()))
-                }
-            }
-            _ => Err(ParseError::Syntax(self.left())),
+        let Some(token) = self.next_of(Kind::Word)? else {
+            return Err(ParseError::Syntax(self.left()));
+        };
+        if token.text() != text {
+            return Err(ParseError::Syntax(self.left()));
         }
+        self.take();
+        Ok(())
     }
 
     /// Consumes the word `event`. `Syntax` if another token is next.
     #[tactic(auto, unfolding(sim_text_grammar::specs::Readers::event, sim_text_grammar::specs::Readers::repeat))]
     pub fn event(&mut self) -> Result<(), ParseError>
-        ensures { Reads (spec.event (view self.old)) result (view self.new) }
+        ensures { Reads (spec.event self.old) result self.new }
     {
         self.repeat(b"event".as_slice())
     }

@@ -4,7 +4,6 @@ ghost use Rattle.std.specs.Prelude.{◌≡◌, Ok};
 ghost use Rattle.sim_text_grammar.specs.Declarations as spec;
 ghost use Rattle.sim_text_tokens.specs.declared.kind.Kind.TheVariants as k;
 ghost use Rattle.sim_text_grammar.specs.Readers.{Reads, and_then, pure, expect};
-ghost use Rattle.sim_text_reader.specs.Cursors.{view};
 
 use crate::cursor::Cursor;
 use crate::lists::{add, first_of, push};
@@ -20,8 +19,8 @@ use std::alloc::Global;
 
 /// Reads one or more names, separated by commas.
 #[tactic(auto, using(sim_text_grammar::proofs::Parts::halves), unfolding(sim_text_grammar::specs::Declarations::names))]
-pub fn names(alloc: Global, tokens: &mut Cursor) -> Result<NonEmpty<Name>, ParseError>
-    ensures { Reads (spec.names (view tokens.old)) result (view tokens.new) }
+pub fn names(alloc: Global, tokens: &mut Cursor<'_>) -> Result<NonEmpty<Name>, ParseError>
+    ensures { Reads (spec.names tokens.old) result tokens.new }
 {
     let first = tokens.word();
     let mut found = first_of(alloc, first)?;
@@ -39,8 +38,8 @@ pub fn names(alloc: Global, tokens: &mut Cursor) -> Result<NonEmpty<Name>, Parse
 /// Reads the repeated name if a word is next, and returns whether one was. `Syntax` at a different
 /// word.
 #[tactic(auto, unfolding(sim_text_grammar::specs::Declarations::repeated))]
-pub fn repeated(tokens: &mut Cursor, text: &[u8]) -> Result<bool, ParseError>
-    ensures { Reads (spec.repeated text.now (view tokens.old)) result (view tokens.new) }
+pub fn repeated(tokens: &mut Cursor<'_>, text: &[u8]) -> Result<bool, ParseError>
+    ensures { Reads (spec.repeated text.now tokens.old) result tokens.new }
 {
     if tokens.sees(Kind::Word) {
         tokens.repeat(text)?;
@@ -52,8 +51,8 @@ pub fn repeated(tokens: &mut Cursor, text: &[u8]) -> Result<bool, ParseError>
 
 /// `[init]`, with `init = := (lit | id)`
 #[tactic(auto, unfolding(sim_text_grammar::specs::Declarations::initial))]
-fn initial(tokens: &mut Cursor) -> Result<Option<Initial>, ParseError>
-    ensures { Reads (spec.initial (view tokens.old)) result (view tokens.new) }
+fn initial(tokens: &mut Cursor<'_>) -> Result<Option<Initial>, ParseError>
+    ensures { Reads (spec.initial tokens.old) result tokens.new }
 {
     if !tokens.eat(Kind::VariableAssign) {
         return Ok(None);
@@ -69,8 +68,8 @@ fn initial(tokens: &mut Cursor) -> Result<Option<Initial>, ParseError>
 
 /// `[in | out | inout]`
 #[tactic(auto, unfolding(sim_text_grammar::specs::Declarations::mode))]
-fn mode(tokens: &mut Cursor) -> Option<Mode>
-    ensures { spec.mode (view tokens.old) ≡ Ok (result, view tokens.new) }
+fn mode(tokens: &mut Cursor<'_>) -> Option<Mode>
+    ensures { spec.mode tokens.old ≡ Ok (result, tokens.new) }
 {
     match tokens.peek() {
         Kind::In => {
@@ -92,11 +91,11 @@ fn mode(tokens: &mut Cursor) -> Option<Mode>
 /// `[in | out | inout] id [init]`, after the names and the colon.
 #[tactic(auto, unfolding(sim_text_grammar::specs::Declarations::port_of))]
 fn port_of(
-    tokens: &mut Cursor,
+    tokens: &mut Cursor<'_>,
     signal: bool,
     names: NonEmpty<Name>,
 ) -> Result<PortDeclaration, ParseError>
-    ensures { Reads (spec.port_of signal names (view tokens.old)) result (view tokens.new) }
+    ensures { Reads (spec.port_of signal names tokens.old) result tokens.new }
 {
     tokens.expect(Kind::Colon)?;
     let mode = mode(tokens);
@@ -113,8 +112,8 @@ fn port_of(
 
 /// `port1 = [signal] id {, id} : [in | out | inout] id [init]`
 #[tactic(auto, unfolding(sim_text_grammar::specs::Declarations::port))]
-fn port(alloc: Global, tokens: &mut Cursor) -> Result<PortDeclaration, ParseError>
-    ensures { Reads (spec.port (view tokens.old)) result (view tokens.new) }
+fn port(alloc: Global, tokens: &mut Cursor<'_>) -> Result<PortDeclaration, ParseError>
+    ensures { Reads (spec.port tokens.old) result tokens.new }
 {
     let signal = tokens.eat(Kind::Signal);
     let names = names(alloc, tokens)?;
@@ -123,8 +122,8 @@ fn port(alloc: Global, tokens: &mut Cursor) -> Result<PortDeclaration, ParseErro
 
 /// `port1 {; port1}`
 #[tactic(auto, using(sim_text_grammar::proofs::Parts::halves), unfolding(sim_text_grammar::specs::Declarations::port_list))]
-fn port_list(alloc: Global, tokens: &mut Cursor) -> Result<Items<PortDeclaration>, ParseError>
-    ensures { Reads (spec.port_list (view tokens.old)) result (view tokens.new) }
+fn port_list(alloc: Global, tokens: &mut Cursor<'_>) -> Result<Items<PortDeclaration>, ParseError>
+    ensures { Reads (spec.port_list tokens.old) result tokens.new }
 {
     let first = port(alloc, tokens);
     let mut found = Vec::new(alloc);
@@ -142,8 +141,8 @@ fn port_list(alloc: Global, tokens: &mut Cursor) -> Result<Items<PortDeclaration
 
 /// Reads a port clause, if one is written (IEEE 1076-2008, 6.5.6.3). Without one there are no
 /// ports.
-pub fn ports(alloc: Global, tokens: &mut Cursor) -> Result<Items<PortDeclaration>, ParseError>
-    ensures { Reads (spec.ports (view tokens.old)) result (view tokens.new) }
+pub fn ports(alloc: Global, tokens: &mut Cursor<'_>) -> Result<Items<PortDeclaration>, ParseError>
+    ensures { Reads (spec.ports tokens.old) result tokens.new }
 {
     if !tokens.eat(Kind::Port) {
         return Ok(Items::new(alloc));
@@ -155,16 +154,16 @@ pub fn ports(alloc: Global, tokens: &mut Cursor) -> Result<Items<PortDeclaration
 }
 
 /// Reads an initial value, if one is written, and the semicolon after it.
-fn initial_ended(tokens: &mut Cursor) -> Result<Option<Initial>, ParseError>
-    ensures { Reads (and_then (spec.initial (view tokens.old)) (λ first i. and_then (expect k.Semicolon i) (λ _. pure first))) result (view tokens.new) }
+fn initial_ended(tokens: &mut Cursor<'_>) -> Result<Option<Initial>, ParseError>
+    ensures { Reads (and_then (spec.initial tokens.old) (λ first i. and_then (expect k.Semicolon i) (λ _. pure first))) result tokens.new }
 {
     let initial = initial(tokens)?;
     tokens.past(Kind::Semicolon, initial)
 }
 
 /// `id {, id} : id [init] ;`, after `signal` or `variable`.
-fn object(alloc: Global, tokens: &mut Cursor) -> Result<ObjectDeclaration, ParseError>
-    ensures { Reads (spec.object (view tokens.old)) result (view tokens.new) }
+fn object(alloc: Global, tokens: &mut Cursor<'_>) -> Result<ObjectDeclaration, ParseError>
+    ensures { Reads (spec.object tokens.old) result tokens.new }
 {
     let names = names(alloc, tokens)?;
     let mark = tokens.word_after(Kind::Colon)?;
@@ -178,8 +177,11 @@ fn object(alloc: Global, tokens: &mut Cursor) -> Result<ObjectDeclaration, Parse
 
 /// Reads the variable declarations of a process (IEEE 1076-2008, 6.4.2.4).
 #[tactic(auto, unfolding(sim_text_grammar::specs::Declarations::variables, sim_text_grammar::specs::Readers::many))]
-pub fn variables(alloc: Global, tokens: &mut Cursor) -> Result<Items<ObjectDeclaration>, ParseError>
-    ensures { Reads (spec.variables (view tokens.old)) result (view tokens.new) }
+pub fn variables(
+    alloc: Global,
+    tokens: &mut Cursor<'_>,
+) -> Result<Items<ObjectDeclaration>, ParseError>
+    ensures { Reads (spec.variables tokens.old) result tokens.new }
 {
     let mut found = Vec::new(alloc);
     for _turn in 0..tokens.left() {
@@ -195,9 +197,9 @@ pub fn variables(alloc: Global, tokens: &mut Cursor) -> Result<Items<ObjectDecla
 
 /// Reads the repeated name, if a word is next, and the semicolon after it; returns whether the name
 /// was repeated.
-fn name_ended(tokens: &mut Cursor, text: &[u8]) -> Result<bool, ParseError>
-    ensures { Reads (and_then (spec.repeated text.now (view tokens.old)) (λ again i. and_then (expect k.Semicolon i) (λ _. pure again)))
-        result (view tokens.new) }
+fn name_ended(tokens: &mut Cursor<'_>, text: &[u8]) -> Result<bool, ParseError>
+    ensures { Reads (and_then (spec.repeated text.now tokens.old) (λ again i. and_then (expect k.Semicolon i) (λ _. pure again)))
+        result tokens.new }
 {
     let name_repeated = repeated(tokens, text)?;
     tokens.past(Kind::Semicolon, name_repeated)
@@ -205,12 +207,12 @@ fn name_ended(tokens: &mut Cursor, text: &[u8]) -> Result<bool, ParseError>
 
 /// `end component [NAME] ;`
 fn component_end(
-    tokens: &mut Cursor,
+    tokens: &mut Cursor<'_>,
     name: Name,
     is: bool,
     ports: Items<PortDeclaration>,
 ) -> Result<ComponentDeclaration, ParseError>
-    ensures { Reads (spec.component_end name is ports (view tokens.old)) result (view tokens.new) }
+    ensures { Reads (spec.component_end name is ports tokens.old) result tokens.new }
 {
     tokens.expect_both(Kind::End, Kind::Component)?;
     let name_repeated = name_ended(tokens, name.text())?;
@@ -224,8 +226,8 @@ fn component_end(
 
 /// `component id [is] [ports] end component [NAME] ;`
 #[tactic(auto, using(crate::proofs::UnitParts::component_in_parts))]
-fn component(alloc: Global, tokens: &mut Cursor) -> Result<ComponentDeclaration, ParseError>
-    ensures { Reads (spec.component (view tokens.old)) result (view tokens.new) }
+fn component(alloc: Global, tokens: &mut Cursor<'_>) -> Result<ComponentDeclaration, ParseError>
+    ensures { Reads (spec.component tokens.old) result tokens.new }
 {
     let name = tokens.word_after(Kind::Component)?;
     let is = tokens.eat(Kind::Is);
@@ -242,8 +244,8 @@ fn begins_declaration(kind: Kind) -> bool
 
 /// `decl = signal id {, id} : id [init] ; | component id [is] [ports] end component [NAME] ;`
 #[tactic(auto, unfolding(sim_text_grammar::specs::Declarations::declaration))]
-fn declaration(alloc: Global, tokens: &mut Cursor) -> Result<Declaration, ParseError>
-    ensures { Reads (spec.declaration (view tokens.old)) result (view tokens.new) }
+fn declaration(alloc: Global, tokens: &mut Cursor<'_>) -> Result<Declaration, ParseError>
+    ensures { Reads (spec.declaration tokens.old) result tokens.new }
 {
     match tokens.peek() {
         Kind::Signal => {
@@ -256,8 +258,11 @@ fn declaration(alloc: Global, tokens: &mut Cursor) -> Result<Declaration, ParseE
 
 /// Reads the declarations of an architecture (IEEE 1076-2008, 3.3.2).
 #[tactic(auto, unfolding(sim_text_grammar::specs::Declarations::declarations, sim_text_grammar::specs::Readers::many))]
-pub fn declarations(alloc: Global, tokens: &mut Cursor) -> Result<Items<Declaration>, ParseError>
-    ensures { Reads (spec.declarations (view tokens.old)) result (view tokens.new) }
+pub fn declarations(
+    alloc: Global,
+    tokens: &mut Cursor<'_>,
+) -> Result<Items<Declaration>, ParseError>
+    ensures { Reads (spec.declarations tokens.old) result tokens.new }
 {
     let mut found = Vec::new(alloc);
     for _turn in 0..tokens.left() {

@@ -6,7 +6,6 @@ ghost use Rattle.sim_text_grammar.specs.Expressions as spec;
 ghost use Rattle.sim_text_tree.specs.Grammar.{is_repeatable, logical_kind};
 ghost use Rattle.sim_text_tokens.specs.declared.kind.Kind.TheVariants as k;
 ghost use Rattle.sim_text_grammar.specs.Readers.{Reads, and_then, pure, expect, word};
-ghost use Rattle.sim_text_reader.specs.Cursors.{view};
 
 use crate::cursor::{Cursor, both};
 use crate::lists::push;
@@ -36,8 +35,8 @@ fn boxed(
 }
 
 /// Reads the argument of a call, and the parenthesis after it.
-fn argument(tokens: &mut Cursor) -> Result<Name, ParseError>
-    ensures { Reads (and_then (word (view tokens.old)) (λ name i. and_then (expect k.RightParen i) (λ _. pure name))) result (view tokens.new) }
+fn argument(tokens: &mut Cursor<'_>) -> Result<Name, ParseError>
+    ensures { Reads (and_then (word tokens.old) (λ name i. and_then (expect k.RightParen i) (λ _. pure name))) result tokens.new }
 {
     let name = tokens.word()?;
     tokens.past(Kind::RightParen, name)
@@ -45,8 +44,8 @@ fn argument(tokens: &mut Cursor) -> Result<Name, ParseError>
 
 /// `id | id ' event | id ( id )`
 #[tactic(auto, unfolding(sim_text_grammar::specs::Expressions::named))]
-fn named(tokens: &mut Cursor) -> Result<Expression, ParseError>
-    ensures { Reads (spec.named (view tokens.old)) result (view tokens.new) }
+fn named(tokens: &mut Cursor<'_>) -> Result<Expression, ParseError>
+    ensures { Reads (spec.named tokens.old) result tokens.new }
 {
     let name = tokens.word()?;
     match tokens.peek() {
@@ -70,8 +69,8 @@ fn named(tokens: &mut Cursor) -> Result<Expression, ParseError>
 /// `prim = lit | id | id ' event | id ( id ) | ( expr )`
 #[cycle(expression)]
 #[tactic(auto, unfolding(sim_text_grammar::specs::Expressions::primary))]
-fn primary(alloc: Global, tokens: &mut Cursor, depth: usize) -> Result<Expression, ParseError>
-    ensures { Reads (spec.primary (spec.nested depth) (view tokens.old)) result (view tokens.new) }
+fn primary(alloc: Global, tokens: &mut Cursor<'_>, depth: usize) -> Result<Expression, ParseError>
+    ensures { Reads (spec.primary (spec.nested depth) tokens.old) result tokens.new }
 {
     match tokens.peek() {
         Kind::Literal => {
@@ -86,8 +85,8 @@ fn primary(alloc: Global, tokens: &mut Cursor, depth: usize) -> Result<Expressio
 /// `fact = prim | not prim`
 #[cycle(expression)]
 #[tactic(auto, unfolding(sim_text_grammar::specs::Expressions::factor))]
-fn factor(alloc: Global, tokens: &mut Cursor, depth: usize) -> Result<Expression, ParseError>
-    ensures { Reads (spec.factor (spec.nested depth) (view tokens.old)) result (view tokens.new) }
+fn factor(alloc: Global, tokens: &mut Cursor<'_>, depth: usize) -> Result<Expression, ParseError>
+    ensures { Reads (spec.factor (spec.nested depth) tokens.old) result tokens.new }
 {
     match tokens.peek() {
         Kind::Not => {
@@ -104,12 +103,12 @@ fn factor(alloc: Global, tokens: &mut Cursor, depth: usize) -> Result<Expression
 #[cycle(expression)]
 fn comparison(
     alloc: Global,
-    tokens: &mut Cursor,
+    tokens: &mut Cursor<'_>,
     depth: usize,
     left: Expression,
     operator: Relational,
 ) -> Result<Expression, ParseError>
-    ensures { Reads (spec.comparison (spec.nested depth) left operator (view tokens.old)) result (view tokens.new) }
+    ensures { Reads (spec.comparison (spec.nested depth) left operator tokens.old) result tokens.new }
 {
     let left = Boxed::new(alloc, left)?;
     let at = tokens.take();
@@ -126,8 +125,8 @@ fn comparison(
 /// `rel = fact [(= | /=) fact]`
 #[cycle(expression)]
 #[tactic(auto, unfolding(sim_text_grammar::specs::Expressions::relation))]
-fn relation(alloc: Global, tokens: &mut Cursor, depth: usize) -> Result<Expression, ParseError>
-    ensures { Reads (spec.relation (spec.nested depth) (view tokens.old)) result (view tokens.new) }
+fn relation(alloc: Global, tokens: &mut Cursor<'_>, depth: usize) -> Result<Expression, ParseError>
+    ensures { Reads (spec.relation (spec.nested depth) tokens.old) result tokens.new }
 {
     let left = factor(alloc, tokens, depth)?;
     match tokens.peek() {
@@ -140,8 +139,8 @@ fn relation(alloc: Global, tokens: &mut Cursor, depth: usize) -> Result<Expressi
 /// An operator, and the `rel` after it.
 #[cycle(expression)]
 #[tactic(auto, unfolding(sim_text_grammar::specs::Expressions::operand))]
-fn operand(alloc: Global, tokens: &mut Cursor, depth: usize) -> Result<Operand, ParseError>
-    ensures { Reads (spec.operand (spec.nested depth) (view tokens.old)) result (view tokens.new) }
+fn operand(alloc: Global, tokens: &mut Cursor<'_>, depth: usize) -> Result<Operand, ParseError>
+    ensures { Reads (spec.operand (spec.nested depth) tokens.old) result tokens.new }
 {
     let operator_at = tokens.take();
     let operand = relation(alloc, tokens, depth)?;
@@ -192,12 +191,12 @@ fn is_repeatable(operator: Logical) -> bool
 #[tactic(auto, unfolding(sim_text_grammar::specs::Readers::sees, sim_text_grammar::specs::Readers::left))]
 fn more_operands(
     alloc: Global,
-    tokens: &mut Cursor,
+    tokens: &mut Cursor<'_>,
     depth: usize,
     operator: Logical,
     second: Operand,
 ) -> Result<Items<Operand>, ParseError>
-    ensures { Reads (spec.more_operands (spec.nested depth) true operator (second ∷ []) (view tokens.old)) result (view tokens.new) }
+    ensures { Reads (spec.more_operands (spec.nested depth) true operator (second ∷ []) tokens.old) result tokens.new }
 {
     let mut found = one(alloc, second)?;
     for _turn in 0..tokens.left() {
@@ -216,11 +215,11 @@ fn more_operands(
 #[tactic(auto, unfolding(sim_text_grammar::specs::Expressions::operands))]
 fn operands(
     alloc: Global,
-    tokens: &mut Cursor,
+    tokens: &mut Cursor<'_>,
     depth: usize,
     operator: Logical,
 ) -> Result<Items<Operand>, ParseError>
-    ensures { Reads (spec.operands (spec.nested depth) operator (view tokens.old)) result (view tokens.new) }
+    ensures { Reads (spec.operands (spec.nested depth) operator tokens.old) result tokens.new }
 {
     let second = operand(alloc, tokens, depth)?;
     if is_repeatable(operator) {
@@ -234,12 +233,12 @@ fn operands(
 #[cycle(expression)]
 fn chained(
     alloc: Global,
-    tokens: &mut Cursor,
+    tokens: &mut Cursor<'_>,
     depth: usize,
     first: Expression,
     operator: Logical,
 ) -> Result<Expression, ParseError>
-    ensures { Reads (spec.chain_by (spec.nested depth) first (Some operator) (view tokens.old)) result (view tokens.new) }
+    ensures { Reads (spec.chain_by (spec.nested depth) first (Some operator) tokens.old) result tokens.new }
 {
     let first = Boxed::new(alloc, first)?;
     let (first, rest) = both(first, operands(alloc, tokens, depth, operator))?;
@@ -253,8 +252,8 @@ fn chained(
 /// `rel {and rel}` and the like: relations, with a logical operator between adjacent ones.
 #[cycle(expression)]
 #[tactic(auto, unfolding(sim_text_grammar::specs::Expressions::chain))]
-fn chain(alloc: Global, tokens: &mut Cursor, depth: usize) -> Result<Expression, ParseError>
-    ensures { Reads (spec.chain (spec.nested depth) (view tokens.old)) result (view tokens.new) }
+fn chain(alloc: Global, tokens: &mut Cursor<'_>, depth: usize) -> Result<Expression, ParseError>
+    ensures { Reads (spec.chain (spec.nested depth) tokens.old) result tokens.new }
 {
     let first = relation(alloc, tokens, depth)?;
     match logical_of(tokens.peek()) {
@@ -266,8 +265,12 @@ fn chain(alloc: Global, tokens: &mut Cursor, depth: usize) -> Result<Expression,
 /// `expr`, in which this many more parentheses may be open.
 #[cycle(expression)]
 #[tactic(auto, unfolding(sim_text_grammar::specs::Expressions::expression_in))]
-fn expression_in(alloc: Global, tokens: &mut Cursor, depth: usize) -> Result<Expression, ParseError>
-    ensures { Reads (spec.expression_in (spec.nested depth) (view tokens.old)) result (view tokens.new) }
+fn expression_in(
+    alloc: Global,
+    tokens: &mut Cursor<'_>,
+    depth: usize,
+) -> Result<Expression, ParseError>
+    ensures { Reads (spec.expression_in (spec.nested depth) tokens.old) result tokens.new }
 {
     match tokens.peek() {
         Kind::Condition => {
@@ -283,8 +286,8 @@ fn expression_in(alloc: Global, tokens: &mut Cursor, depth: usize) -> Result<Exp
 /// `( expr )`, where this many more parentheses may be open; `TooDeep` if none may.
 #[cycle(expression)]
 #[tactic(auto, unfolding(sim_text_grammar::specs::Expressions::nested, sim_text_grammar::specs::Readers::left))]
-fn nested(alloc: Global, tokens: &mut Cursor, depth: usize) -> Result<Expression, ParseError>
-    ensures { Reads (spec.nested depth (view tokens.old)) result (view tokens.new) }
+fn nested(alloc: Global, tokens: &mut Cursor<'_>, depth: usize) -> Result<Expression, ParseError>
+    ensures { Reads (spec.nested depth tokens.old) result tokens.new }
 {
     if depth == 0 {
         return Err(ParseError::TooDeep(tokens.left()));
@@ -298,8 +301,8 @@ fn nested(alloc: Global, tokens: &mut Cursor, depth: usize) -> Result<Expression
 /// Reads an expression (IEEE 1076-2008, 9.1). `Syntax` at the first token that cannot continue one,
 /// `TooDeep` at a parenthesis inside 64 others.
 #[tactic(auto, unfolding(sim_text_grammar::specs::Expressions::expression))]
-pub fn expression(alloc: Global, tokens: &mut Cursor) -> Result<Expression, ParseError>
-    ensures { Reads (spec.expression (view tokens.old)) result (view tokens.new) }
+pub fn expression(alloc: Global, tokens: &mut Cursor<'_>) -> Result<Expression, ParseError>
+    ensures { Reads (spec.expression tokens.old) result tokens.new }
 {
     expression_in(alloc, tokens, MOST_PARENTHESES)
 }

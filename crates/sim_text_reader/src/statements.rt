@@ -6,7 +6,6 @@ ghost use Rattle.sim_text_grammar.specs.Statements.{condition};
 ghost use Rattle.sim_text_tokens.specs.declared.kind.Kind.TheVariants as k;
 ghost use Rattle.sim_text_grammar.specs.Waveforms.{waveform};
 ghost use Rattle.sim_text_grammar.specs.Readers.{Reads, and_then, pure, expect};
-ghost use Rattle.sim_text_reader.specs.Cursors.{view};
 
 use crate::Cursor;
 use crate::cursor::both;
@@ -31,8 +30,8 @@ const MOST_IFS: usize = 64;
 /// Reads the repeated label if a word is next, and returns whether one was. `Syntax` at a different
 /// word, or at any word if there is no label.
 #[tactic(auto, unfolding(sim_text_grammar::specs::Statements::label_again, sim_text_grammar::specs::Readers::left))]
-pub fn label_again(tokens: &mut Cursor, label: &Option<Name>) -> Result<bool, ParseError>
-    ensures { Reads (spec.label_again label.now (view tokens.old)) result (view tokens.new) }
+pub fn label_again(tokens: &mut Cursor<'_>, label: &Option<Name>) -> Result<bool, ParseError>
+    ensures { Reads (spec.label_again label.now tokens.old) result tokens.new }
 {
     if !tokens.sees(Kind::Word) {
         return Ok(false);
@@ -48,9 +47,9 @@ pub fn label_again(tokens: &mut Cursor, label: &Option<Name>) -> Result<bool, Pa
 
 /// Reads the repeated label, if a word is next, and the semicolon after it; returns whether the
 /// label was repeated.
-pub fn label_ended(tokens: &mut Cursor, label: &Option<Name>) -> Result<bool, ParseError>
-    ensures { Reads (and_then (spec.label_again label.now (view tokens.old)) (λ again i. and_then (expect k.Semicolon i) (λ _. pure again)))
-        result (view tokens.new) }
+pub fn label_ended(tokens: &mut Cursor<'_>, label: &Option<Name>) -> Result<bool, ParseError>
+    ensures { Reads (and_then (spec.label_again label.now tokens.old) (λ again i. and_then (expect k.Semicolon i) (λ _. pure again)))
+        result tokens.new }
 {
     let label_repeated = label_again(tokens, label)?;
     tokens.past(Kind::Semicolon, label_repeated)
@@ -60,10 +59,10 @@ pub fn label_ended(tokens: &mut Cursor, label: &Option<Name>) -> Result<bool, Pa
 #[tactic(auto, unfolding(sim_text_grammar::specs::Statements::variable_assigned))]
 fn variable_assigned(
     alloc: Global,
-    tokens: &mut Cursor,
+    tokens: &mut Cursor<'_>,
     target: Name,
 ) -> Result<Statement, ParseError>
-    ensures { Reads (spec.variable_assigned target (view tokens.old)) result (view tokens.new) }
+    ensures { Reads (spec.variable_assigned target tokens.old) result tokens.new }
 {
     tokens.take();
     let value = expression(alloc, tokens)?;
@@ -72,8 +71,8 @@ fn variable_assigned(
 }
 
 /// Reads a waveform, and the semicolon after it.
-fn waveform_ended(alloc: Global, tokens: &mut Cursor) -> Result<Waveform, ParseError>
-    ensures { Reads (and_then (waveform (view tokens.old)) (λ found i. and_then (expect k.Semicolon i) (λ _. pure found))) result (view tokens.new) }
+fn waveform_ended(alloc: Global, tokens: &mut Cursor<'_>) -> Result<Waveform, ParseError>
+    ensures { Reads (and_then (waveform tokens.old) (λ found i. and_then (expect k.Semicolon i) (λ _. pure found))) result tokens.new }
 {
     let waveform = waveform(alloc, tokens)?;
     tokens.past(Kind::Semicolon, waveform)
@@ -82,10 +81,10 @@ fn waveform_ended(alloc: Global, tokens: &mut Cursor) -> Result<Waveform, ParseE
 /// `<= [delay] wave ;`, after the target.
 fn signal_assigned(
     alloc: Global,
-    tokens: &mut Cursor,
+    tokens: &mut Cursor<'_>,
     target: Name,
 ) -> Result<Statement, ParseError>
-    ensures { Reads (spec.signal_assigned target (view tokens.old)) result (view tokens.new) }
+    ensures { Reads (spec.signal_assigned target tokens.old) result tokens.new }
 {
     let mechanism = assigned_after(tokens)?;
     let (delay, waveform) = both(mechanism, waveform_ended(alloc, tokens))?;
@@ -98,8 +97,8 @@ fn signal_assigned(
 
 /// `<= [delay] wave ; | := expr ;`, after the target.
 #[tactic(auto, unfolding(sim_text_grammar::specs::Statements::assigned))]
-fn assigned(alloc: Global, tokens: &mut Cursor, target: Name) -> Result<Statement, ParseError>
-    ensures { Reads (spec.assigned target (view tokens.old)) result (view tokens.new) }
+fn assigned(alloc: Global, tokens: &mut Cursor<'_>, target: Name) -> Result<Statement, ParseError>
+    ensures { Reads (spec.assigned target tokens.old) result tokens.new }
 {
     match tokens.peek() {
         Kind::VariableAssign => variable_assigned(alloc, tokens, target),
@@ -109,8 +108,8 @@ fn assigned(alloc: Global, tokens: &mut Cursor, target: Name) -> Result<Statemen
 
 /// `null ;`
 #[tactic(auto, unfolding(sim_text_grammar::specs::Statements::null))]
-fn null(tokens: &mut Cursor) -> Result<Statement, ParseError>
-    ensures { Reads (spec.null (view tokens.old)) result (view tokens.new) }
+fn null(tokens: &mut Cursor<'_>) -> Result<Statement, ParseError>
+    ensures { Reads (spec.null tokens.old) result tokens.new }
 {
     tokens.take();
     tokens.expect(Kind::Semicolon)?;
@@ -129,11 +128,11 @@ fn begins_statement(kind: Kind) -> bool
 #[tactic(auto, unfolding(sim_text_grammar::specs::Statements::labelled))]
 fn labelled(
     alloc: Global,
-    tokens: &mut Cursor,
+    tokens: &mut Cursor<'_>,
     depth: usize,
     label: &Option<Name>,
 ) -> Result<Statement, ParseError>
-    ensures { Reads (spec.labelled (spec.if_statement depth) label.now (view tokens.old)) result (view tokens.new) }
+    ensures { Reads (spec.labelled (spec.if_statement depth) label.now tokens.old) result tokens.new }
 {
     match tokens.peek() {
         Kind::If => if_statement(alloc, tokens, depth, label),
@@ -161,11 +160,11 @@ fn unlabelled(read: Result<Statement, ParseError>) -> Result<Sequential, ParseEr
 #[cycle(statement)]
 fn named(
     alloc: Global,
-    tokens: &mut Cursor,
+    tokens: &mut Cursor<'_>,
     depth: usize,
     first: Name,
 ) -> Result<Sequential, ParseError>
-    ensures { Reads (spec.named_by (spec.if_statement depth) first (view tokens.old)) result (view tokens.new) }
+    ensures { Reads (spec.named_by (spec.if_statement depth) first tokens.old) result tokens.new }
 {
     if tokens.eat(Kind::Colon) {
         let label = Some(first);
@@ -180,8 +179,8 @@ fn named(
 /// `seq`, in which this many more ifs may be open.
 #[cycle(statement)]
 #[tactic(auto, unfolding(sim_text_grammar::specs::Statements::statement))]
-fn statement(alloc: Global, tokens: &mut Cursor, depth: usize) -> Result<Sequential, ParseError>
-    ensures { Reads (spec.statement (spec.if_statement depth) (view tokens.old)) result (view tokens.new) }
+fn statement(alloc: Global, tokens: &mut Cursor<'_>, depth: usize) -> Result<Sequential, ParseError>
+    ensures { Reads (spec.statement (spec.if_statement depth) tokens.old) result tokens.new }
 {
     match tokens.peek() {
         Kind::If => {
@@ -204,10 +203,10 @@ fn statement(alloc: Global, tokens: &mut Cursor, depth: usize) -> Result<Sequent
 #[tactic(auto, unfolding(sim_text_grammar::specs::Statements::sequence, sim_text_grammar::specs::Readers::many))]
 fn sequence(
     alloc: Global,
-    tokens: &mut Cursor,
+    tokens: &mut Cursor<'_>,
     depth: usize,
 ) -> Result<Items<Sequential>, ParseError>
-    ensures { Reads (spec.sequence (spec.if_statement depth) (view tokens.old)) result (view tokens.new) }
+    ensures { Reads (spec.sequence (spec.if_statement depth) tokens.old) result tokens.new }
 {
     let mut found = Vec::new(alloc);
     for _turn in 0..tokens.left() {
@@ -222,8 +221,8 @@ fn sequence(
 
 /// `expr then`
 #[tactic(auto, unfolding(sim_text_grammar::specs::Statements::condition))]
-fn condition(alloc: Global, tokens: &mut Cursor) -> Result<Expression, ParseError>
-    ensures { Reads (condition (view tokens.old)) result (view tokens.new) }
+fn condition(alloc: Global, tokens: &mut Cursor<'_>) -> Result<Expression, ParseError>
+    ensures { Reads (condition tokens.old) result tokens.new }
 {
     let condition = expression(alloc, tokens)?;
     tokens.past(Kind::Then, condition)
@@ -232,8 +231,8 @@ fn condition(alloc: Global, tokens: &mut Cursor) -> Result<Expression, ParseErro
 /// `expr then {seq}`
 #[cycle(statement)]
 #[tactic(auto, unfolding(sim_text_grammar::specs::Statements::branch, sim_text_grammar::specs::Statements::condition))]
-fn branch(alloc: Global, tokens: &mut Cursor, depth: usize) -> Result<Branch, ParseError>
-    ensures { Reads (spec.branch (spec.if_statement depth) (view tokens.old)) result (view tokens.new) }
+fn branch(alloc: Global, tokens: &mut Cursor<'_>, depth: usize) -> Result<Branch, ParseError>
+    ensures { Reads (spec.branch (spec.if_statement depth) tokens.old) result tokens.new }
 {
     let condition = condition(alloc, tokens)?;
     let (condition, statements) = both(condition, sequence(alloc, tokens, depth))?;
@@ -246,8 +245,12 @@ fn branch(alloc: Global, tokens: &mut Cursor, depth: usize) -> Result<Branch, Pa
 /// `expr then {seq} {elsif expr then {seq}}`
 #[cycle(statement)]
 #[tactic(auto, using(sim_text_grammar::proofs::Parts::halves), unfolding(sim_text_grammar::specs::Statements::branches))]
-fn branches(alloc: Global, tokens: &mut Cursor, depth: usize) -> Result<Items<Branch>, ParseError>
-    ensures { Reads (spec.branches (spec.if_statement depth) (view tokens.old)) result (view tokens.new) }
+fn branches(
+    alloc: Global,
+    tokens: &mut Cursor<'_>,
+    depth: usize,
+) -> Result<Items<Branch>, ParseError>
+    ensures { Reads (spec.branches (spec.if_statement depth) tokens.old) result tokens.new }
 {
     let first = branch(alloc, tokens, depth);
     let mut found = Vec::new(alloc);
@@ -268,10 +271,10 @@ fn branches(alloc: Global, tokens: &mut Cursor, depth: usize) -> Result<Items<Br
 #[tactic(auto, unfolding(sim_text_grammar::specs::Statements::otherwise))]
 fn otherwise(
     alloc: Global,
-    tokens: &mut Cursor,
+    tokens: &mut Cursor<'_>,
     depth: usize,
 ) -> Result<Option<Items<Sequential>>, ParseError>
-    ensures { Reads (spec.otherwise (spec.if_statement depth) (view tokens.old)) result (view tokens.new) }
+    ensures { Reads (spec.otherwise (spec.if_statement depth) tokens.old) result tokens.new }
 {
     if !tokens.eat(Kind::Else) {
         return Ok(None);
@@ -282,12 +285,12 @@ fn otherwise(
 
 /// `end if [NAME] ;`
 fn if_end(
-    tokens: &mut Cursor,
+    tokens: &mut Cursor<'_>,
     label: &Option<Name>,
     branches: Items<Branch>,
     otherwise: Option<Items<Sequential>>,
 ) -> Result<Statement, ParseError>
-    ensures { Reads (spec.if_end label.now branches otherwise (view tokens.old)) result (view tokens.new) }
+    ensures { Reads (spec.if_end label.now branches otherwise tokens.old) result tokens.new }
 {
     tokens.expect_both(Kind::End, Kind::If)?;
     let label_repeated = label_ended(tokens, label)?;
@@ -304,11 +307,11 @@ fn if_end(
 #[tactic(auto, unfolding(sim_text_grammar::specs::Statements::if_statement, sim_text_grammar::specs::Readers::left))]
 fn if_statement(
     alloc: Global,
-    tokens: &mut Cursor,
+    tokens: &mut Cursor<'_>,
     depth: usize,
     label: &Option<Name>,
 ) -> Result<Statement, ParseError>
-    ensures { Reads (spec.if_statement depth label.now (view tokens.old)) result (view tokens.new) }
+    ensures { Reads (spec.if_statement depth label.now tokens.old) result tokens.new }
 {
     if depth == 0 {
         return Err(ParseError::TooDeep(tokens.left()));
@@ -321,8 +324,8 @@ fn if_statement(
 
 /// Reads the statements of a process (IEEE 1076-2008, 10.1). `TooDeep` at an `if` inside 64 others.
 #[tactic(auto, unfolding(sim_text_grammar::specs::Statements::statements))]
-pub fn statements(alloc: Global, tokens: &mut Cursor) -> Result<Items<Sequential>, ParseError>
-    ensures { Reads (spec.statements (view tokens.old)) result (view tokens.new) }
+pub fn statements(alloc: Global, tokens: &mut Cursor<'_>) -> Result<Items<Sequential>, ParseError>
+    ensures { Reads (spec.statements tokens.old) result tokens.new }
 {
     sequence(alloc, tokens, MOST_IFS)
 }

@@ -6,7 +6,6 @@ ghost use Rattle.sim_text_grammar.specs.Units as spec;
 ghost use Rattle.sim_text_grammar.specs.Declarations.{declarations, names, ports, repeated};
 ghost use Rattle.sim_text_grammar.specs.Concurrents.{concurrents};
 ghost use Rattle.sim_text_grammar.specs.Readers.{Reads, and_then, pure, eat, expect};
-ghost use Rattle.sim_text_reader.specs.Cursors.{view};
 
 use crate::concurrents::concurrents;
 use crate::cursor::Cursor;
@@ -26,8 +25,8 @@ use std::alloc::Global;
 
 /// `{. id} . (id | all)`, and whether it ends in `all`.
 #[tactic(auto, unfolding(sim_text_grammar::specs::Units::suffixes, sim_text_grammar::specs::Readers::left))]
-fn suffixes(alloc: Global, tokens: &mut Cursor) -> Result<(Items<Name>, bool), ParseError>
-    ensures { Reads (spec.suffixes (view tokens.old)) result (view tokens.new) }
+fn suffixes(alloc: Global, tokens: &mut Cursor<'_>) -> Result<(Items<Name>, bool), ParseError>
+    ensures { Reads (spec.suffixes tokens.old) result tokens.new }
 {
     let mut found = Vec::new(alloc);
     for _turn in 0..tokens.left() {
@@ -46,8 +45,8 @@ fn suffixes(alloc: Global, tokens: &mut Cursor) -> Result<(Items<Name>, bool), P
 
 /// `sel = id {. id} . (id | all)`
 #[tactic(auto, unfolding(sim_text_grammar::specs::Units::selected))]
-fn selected(alloc: Global, tokens: &mut Cursor) -> Result<SelectedName, ParseError>
-    ensures { Reads (spec.selected (view tokens.old)) result (view tokens.new) }
+fn selected(alloc: Global, tokens: &mut Cursor<'_>) -> Result<SelectedName, ParseError>
+    ensures { Reads (spec.selected tokens.old) result tokens.new }
 {
     let prefix = tokens.word()?;
     let (suffixes, all) = suffixes(alloc, tokens)?;
@@ -60,8 +59,11 @@ fn selected(alloc: Global, tokens: &mut Cursor) -> Result<SelectedName, ParseErr
 
 /// `sel {, sel}`
 #[tactic(auto, using(sim_text_grammar::proofs::Parts::halves), unfolding(sim_text_grammar::specs::Units::selected_names))]
-fn selected_names(alloc: Global, tokens: &mut Cursor) -> Result<NonEmpty<SelectedName>, ParseError>
-    ensures { Reads (spec.selected_names (view tokens.old)) result (view tokens.new) }
+fn selected_names(
+    alloc: Global,
+    tokens: &mut Cursor<'_>,
+) -> Result<NonEmpty<SelectedName>, ParseError>
+    ensures { Reads (spec.selected_names tokens.old) result tokens.new }
 {
     let first = selected(alloc, tokens);
     let mut found = first_of(alloc, first)?;
@@ -77,16 +79,16 @@ fn selected_names(alloc: Global, tokens: &mut Cursor) -> Result<NonEmpty<Selecte
 }
 
 /// Reads the names of a library clause, and the semicolon after them.
-fn library_names(alloc: Global, tokens: &mut Cursor) -> Result<NonEmpty<Name>, ParseError>
-    ensures { Reads (and_then (names (view tokens.old)) (λ found i. and_then (expect k.Semicolon i) (λ _. pure found))) result (view tokens.new) }
+fn library_names(alloc: Global, tokens: &mut Cursor<'_>) -> Result<NonEmpty<Name>, ParseError>
+    ensures { Reads (and_then (names tokens.old) (λ found i. and_then (expect k.Semicolon i) (λ _. pure found))) result tokens.new }
 {
     let names = names(alloc, tokens)?;
     tokens.past(Kind::Semicolon, names)
 }
 
 /// Reads the names of a use clause, and the semicolon after them.
-fn used_names(alloc: Global, tokens: &mut Cursor) -> Result<NonEmpty<SelectedName>, ParseError>
-    ensures { Reads (and_then (spec.selected_names (view tokens.old)) (λ found i. and_then (expect k.Semicolon i) (λ _. pure found))) result (view tokens.new) }
+fn used_names(alloc: Global, tokens: &mut Cursor<'_>) -> Result<NonEmpty<SelectedName>, ParseError>
+    ensures { Reads (and_then (spec.selected_names tokens.old) (λ found i. and_then (expect k.Semicolon i) (λ _. pure found))) result tokens.new }
 {
     let names = selected_names(alloc, tokens)?;
     tokens.past(Kind::Semicolon, names)
@@ -94,8 +96,8 @@ fn used_names(alloc: Global, tokens: &mut Cursor) -> Result<NonEmpty<SelectedNam
 
 /// `context = library id {, id} ; | use sel {, sel} ;`
 #[tactic(auto, using(crate::proofs::UnitParts::context_in_parts), unfolding(sim_text_grammar::specs::Units::context_item))]
-fn context_item(alloc: Global, tokens: &mut Cursor) -> Result<ContextItem, ParseError>
-    ensures { Reads (spec.context_item (view tokens.old)) result (view tokens.new) }
+fn context_item(alloc: Global, tokens: &mut Cursor<'_>) -> Result<ContextItem, ParseError>
+    ensures { Reads (spec.context_item tokens.old) result tokens.new }
 {
     match tokens.peek() {
         Kind::Library => {
@@ -120,8 +122,8 @@ fn begins_context(kind: Kind) -> bool
 
 /// `{context}`
 #[tactic(auto, unfolding(sim_text_grammar::specs::Units::context, sim_text_grammar::specs::Readers::many))]
-fn context(alloc: Global, tokens: &mut Cursor) -> Result<Items<ContextItem>, ParseError>
-    ensures { Reads (spec.context (view tokens.old)) result (view tokens.new) }
+fn context(alloc: Global, tokens: &mut Cursor<'_>) -> Result<Items<ContextItem>, ParseError>
+    ensures { Reads (spec.context tokens.old) result tokens.new }
 {
     let mut found = Vec::new(alloc);
     for _turn in 0..tokens.left() {
@@ -135,17 +137,20 @@ fn context(alloc: Global, tokens: &mut Cursor) -> Result<Items<ContextItem>, Par
 }
 
 /// `is [ports]`
-fn entity_ports(alloc: Global, tokens: &mut Cursor) -> Result<Items<PortDeclaration>, ParseError>
-    ensures { Reads (and_then (expect k.Is (view tokens.old)) (λ _. ports)) result (view tokens.new) }
+fn entity_ports(
+    alloc: Global,
+    tokens: &mut Cursor<'_>,
+) -> Result<Items<PortDeclaration>, ParseError>
+    ensures { Reads (and_then (expect k.Is tokens.old) (λ _. ports)) result tokens.new }
 {
     tokens.expect(Kind::Is)?;
     ports(alloc, tokens)
 }
 
 /// Reads the end of a unit: whether its word is repeated, and whether its name is.
-fn unit_end(tokens: &mut Cursor, word: Kind, name: &[u8]) -> Result<(bool, bool), ParseError>
-    ensures { Reads (and_then (expect k.End (view tokens.old)) (λ _ i. and_then (eat word i) (λ with_word i. and_then (repeated name.now i) (λ again i.
-        and_then (expect k.Semicolon i) (λ _. pure (with_word, again)))))) result (view tokens.new) }
+fn unit_end(tokens: &mut Cursor<'_>, word: Kind, name: &[u8]) -> Result<(bool, bool), ParseError>
+    ensures { Reads (and_then (expect k.End tokens.old) (λ _ i. and_then (eat word i) (λ with_word i. and_then (repeated name.now i) (λ again i.
+        and_then (expect k.Semicolon i) (λ _. pure (with_word, again)))))) result tokens.new }
 {
     tokens.expect(Kind::End)?;
     let word_repeated = tokens.eat(word);
@@ -154,8 +159,8 @@ fn unit_end(tokens: &mut Cursor, word: Kind, name: &[u8]) -> Result<(bool, bool)
 }
 
 /// `entity = entity id is [ports] end [entity] [NAME] ;`
-fn entity(alloc: Global, tokens: &mut Cursor) -> Result<Entity, ParseError>
-    ensures { Reads (spec.entity (view tokens.old)) result (view tokens.new) }
+fn entity(alloc: Global, tokens: &mut Cursor<'_>) -> Result<Entity, ParseError>
+    ensures { Reads (spec.entity tokens.old) result tokens.new }
 {
     let name = tokens.word_after(Kind::Entity)?;
     let ports = entity_ports(alloc, tokens)?;
@@ -171,9 +176,9 @@ fn entity(alloc: Global, tokens: &mut Cursor) -> Result<Entity, ParseError>
 /// `begin {conc}`
 fn architecture_statements(
     alloc: Global,
-    tokens: &mut Cursor,
+    tokens: &mut Cursor<'_>,
 ) -> Result<Items<Concurrent>, ParseError>
-    ensures { Reads (and_then (expect k.Begin (view tokens.old)) (λ _. concurrents)) result (view tokens.new) }
+    ensures { Reads (and_then (expect k.Begin tokens.old) (λ _. concurrents)) result tokens.new }
 {
     tokens.expect(Kind::Begin)?;
     concurrents(alloc, tokens)
@@ -182,12 +187,12 @@ fn architecture_statements(
 /// `begin {conc} end [architecture] [NAME] ;`
 fn architecture_body(
     alloc: Global,
-    tokens: &mut Cursor,
+    tokens: &mut Cursor<'_>,
     name: Name,
     entity: Name,
     declarations: Items<Declaration>,
 ) -> Result<Architecture, ParseError>
-    ensures { Reads (spec.architecture_body name entity declarations (view tokens.old)) result (view tokens.new) }
+    ensures { Reads (spec.architecture_body name entity declarations tokens.old) result tokens.new }
 {
     let statements = architecture_statements(alloc, tokens)?;
     let (word_repeated, name_repeated) = unit_end(tokens, Kind::Architecture, name.text())?;
@@ -204,17 +209,17 @@ fn architecture_body(
 /// `is {decl}`
 fn architecture_declarations(
     alloc: Global,
-    tokens: &mut Cursor,
+    tokens: &mut Cursor<'_>,
 ) -> Result<Items<Declaration>, ParseError>
-    ensures { Reads (and_then (expect k.Is (view tokens.old)) (λ _. declarations)) result (view tokens.new) }
+    ensures { Reads (and_then (expect k.Is tokens.old) (λ _. declarations)) result tokens.new }
 {
     tokens.expect(Kind::Is)?;
     declarations(alloc, tokens)
 }
 
 /// `arch = architecture id of id is {decl} begin {conc} end [architecture] [NAME] ;`
-fn architecture(alloc: Global, tokens: &mut Cursor) -> Result<Architecture, ParseError>
-    ensures { Reads (spec.architecture (view tokens.old)) result (view tokens.new) }
+fn architecture(alloc: Global, tokens: &mut Cursor<'_>) -> Result<Architecture, ParseError>
+    ensures { Reads (spec.architecture tokens.old) result tokens.new }
 {
     let name = tokens.word_after(Kind::Architecture)?;
     let entity = tokens.word_after(Kind::Of)?;
@@ -224,8 +229,8 @@ fn architecture(alloc: Global, tokens: &mut Cursor) -> Result<Architecture, Pars
 
 /// `entity | arch`
 #[tactic(auto, unfolding(sim_text_grammar::specs::Units::library_unit))]
-fn library_unit(alloc: Global, tokens: &mut Cursor) -> Result<LibraryUnit, ParseError>
-    ensures { Reads (spec.library_unit (view tokens.old)) result (view tokens.new) }
+fn library_unit(alloc: Global, tokens: &mut Cursor<'_>) -> Result<LibraryUnit, ParseError>
+    ensures { Reads (spec.library_unit tokens.old) result tokens.new }
 {
     match tokens.peek() {
         Kind::Architecture => architecture(alloc, tokens).map(LibraryUnit::Architecture),
@@ -235,8 +240,8 @@ fn library_unit(alloc: Global, tokens: &mut Cursor) -> Result<LibraryUnit, Parse
 
 /// `unit = {context} (entity | arch)`
 #[tactic(auto, unfolding(sim_text_grammar::specs::Units::unit))]
-fn unit(alloc: Global, tokens: &mut Cursor) -> Result<DesignUnit, ParseError>
-    ensures { Reads (spec.unit (view tokens.old)) result (view tokens.new) }
+fn unit(alloc: Global, tokens: &mut Cursor<'_>) -> Result<DesignUnit, ParseError>
+    ensures { Reads (spec.unit tokens.old) result tokens.new }
 {
     let context = context(alloc, tokens)?;
     let library_unit = library_unit(alloc, tokens)?;
@@ -248,8 +253,8 @@ fn unit(alloc: Global, tokens: &mut Cursor) -> Result<DesignUnit, ParseError>
 
 /// `unit {unit}`, up to the end of the text.
 #[tactic(auto, using(crate::proofs::UnitParts::units_in_parts))]
-fn units_of(alloc: Global, tokens: &mut Cursor) -> Result<NonEmpty<DesignUnit>, ParseError>
-    ensures { Reads (spec.units_of (view tokens.old)) result (view tokens.new) }
+fn units_of(alloc: Global, tokens: &mut Cursor<'_>) -> Result<NonEmpty<DesignUnit>, ParseError>
+    ensures { Reads (spec.units_of tokens.old) result tokens.new }
 {
     let first = unit(alloc, tokens);
     let mut found = first_of(alloc, first)?;
@@ -265,8 +270,8 @@ fn units_of(alloc: Global, tokens: &mut Cursor) -> Result<NonEmpty<DesignUnit>, 
 
 /// The end of the text.
 #[tactic(auto, unfolding(sim_text_grammar::specs::Units::finish, sim_text_grammar::specs::Readers::left))]
-fn finish(tokens: &mut Cursor) -> Result<(), ParseError>
-    ensures { Reads (spec.finish (view tokens.old)) result (view tokens.new) }
+fn finish(tokens: &mut Cursor<'_>) -> Result<(), ParseError>
+    ensures { Reads (spec.finish tokens.old) result tokens.new }
 {
     if tokens.is_empty() {
         Ok(())
@@ -277,8 +282,8 @@ fn finish(tokens: &mut Cursor) -> Result<(), ParseError>
 
 /// Reads a file (IEEE 1076-2008, 13.1). No token may remain after its units.
 #[tactic(auto, unfolding(sim_text_grammar::specs::Units::file))]
-pub fn file(alloc: Global, tokens: &mut Cursor) -> Result<DesignFile, ParseError>
-    ensures { Reads (spec.file (view tokens.old)) result (view tokens.new) }
+pub fn file(alloc: Global, tokens: &mut Cursor<'_>) -> Result<DesignFile, ParseError>
+    ensures { Reads (spec.file tokens.old) result tokens.new }
 {
     let units = units_of(alloc, tokens)?;
     finish(tokens)?;

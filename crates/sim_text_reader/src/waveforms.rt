@@ -3,7 +3,6 @@
 ghost use Rattle.sim_text_grammar.specs.Waveforms as spec;
 ghost use Rattle.sim_text_tokens.specs.declared.kind.Kind.TheVariants as k;
 ghost use Rattle.sim_text_grammar.specs.Readers.{Reads, and_then, pure, expect};
-ghost use Rattle.sim_text_reader.specs.Cursors.{view};
 
 use crate::cursor::{Cursor, both};
 use crate::expressions::expression;
@@ -21,8 +20,8 @@ use std::alloc::Global;
 
 /// `num (fs | ps | ns | us | ms | sec | min | hr)`; `left` is the place of a `TimeRange` fault.
 #[tactic(auto, unfolding(sim_text_grammar::specs::Waveforms::time_from, sim_text_tree::specs::Times::is_time))]
-fn time_from(tokens: &mut Cursor, left: usize) -> Result<TimeLiteral, ParseError>
-    ensures { Reads (spec.time_from left (view tokens.old)) result (view tokens.new) }
+fn time_from(tokens: &mut Cursor<'_>, left: usize) -> Result<TimeLiteral, ParseError>
+    ensures { Reads (spec.time_from left tokens.old) result tokens.new }
 {
     let (digits, at) = tokens.number()?;
     let unit = tokens.unit()?;
@@ -35,8 +34,8 @@ fn time_from(tokens: &mut Cursor, left: usize) -> Result<TimeLiteral, ParseError
 /// Reads a time: a number and a unit (IEEE 1076-2008, 5.2.4). `TimeRange` at the number if the time
 /// is larger than the largest.
 #[tactic(auto, unfolding(sim_text_grammar::specs::Waveforms::time))]
-pub fn time(tokens: &mut Cursor) -> Result<TimeLiteral, ParseError>
-    ensures { Reads (spec.time (view tokens.old)) result (view tokens.new) }
+pub fn time(tokens: &mut Cursor<'_>) -> Result<TimeLiteral, ParseError>
+    ensures { Reads (spec.time tokens.old) result tokens.new }
 {
     let left = tokens.left();
     time_from(tokens, left)
@@ -44,8 +43,8 @@ pub fn time(tokens: &mut Cursor) -> Result<TimeLiteral, ParseError>
 
 /// `elem = expr [after time]`
 #[tactic(auto, unfolding(sim_text_grammar::specs::Waveforms::element))]
-fn element(alloc: Global, tokens: &mut Cursor) -> Result<Element, ParseError>
-    ensures { Reads (spec.element (view tokens.old)) result (view tokens.new) }
+fn element(alloc: Global, tokens: &mut Cursor<'_>) -> Result<Element, ParseError>
+    ensures { Reads (spec.element tokens.old) result tokens.new }
 {
     let value = expression(alloc, tokens)?;
     if tokens.eat(Kind::After) {
@@ -61,8 +60,8 @@ fn element(alloc: Global, tokens: &mut Cursor) -> Result<Element, ParseError>
 
 /// Reads a waveform (IEEE 1076-2008, 10.5.2.1).
 #[tactic(auto, using(sim_text_grammar::proofs::Parts::halves), unfolding(sim_text_grammar::specs::Waveforms::waveform, sim_text_grammar::specs::Readers::sees))]
-pub fn waveform(alloc: Global, tokens: &mut Cursor) -> Result<Waveform, ParseError>
-    ensures { Reads (spec.waveform (view tokens.old)) result (view tokens.new) }
+pub fn waveform(alloc: Global, tokens: &mut Cursor<'_>) -> Result<Waveform, ParseError>
+    ensures { Reads (spec.waveform tokens.old) result tokens.new }
 {
     let first = element(alloc, tokens);
     let mut found = first_of(alloc, first)?;
@@ -79,8 +78,8 @@ pub fn waveform(alloc: Global, tokens: &mut Cursor) -> Result<Waveform, ParseErr
 
 /// Reads a delay mechanism, if one is written (IEEE 1076-2008, 10.5.2.1).
 #[tactic(auto, unfolding(sim_text_grammar::specs::Waveforms::delay))]
-pub fn delay(tokens: &mut Cursor) -> Result<DelayMechanism, ParseError>
-    ensures { Reads (spec.delay (view tokens.old)) result (view tokens.new) }
+pub fn delay(tokens: &mut Cursor<'_>) -> Result<DelayMechanism, ParseError>
+    ensures { Reads (spec.delay tokens.old) result tokens.new }
 {
     match tokens.peek() {
         Kind::Transport => {
@@ -101,8 +100,8 @@ pub fn delay(tokens: &mut Cursor) -> Result<DelayMechanism, ParseError>
 }
 
 /// `<= [delay]`, the first part of an assignment after its target.
-pub fn assigned_after(tokens: &mut Cursor) -> Result<DelayMechanism, ParseError>
-    ensures { Reads (and_then (expect k.SignalAssign (view tokens.old)) (λ _. spec.delay)) result (view tokens.new) }
+pub fn assigned_after(tokens: &mut Cursor<'_>) -> Result<DelayMechanism, ParseError>
+    ensures { Reads (and_then (expect k.SignalAssign tokens.old) (λ _. spec.delay)) result tokens.new }
 {
     tokens.expect(Kind::SignalAssign)?;
     delay(tokens)
@@ -112,10 +111,10 @@ pub fn assigned_after(tokens: &mut Cursor) -> Result<DelayMechanism, ParseError>
 #[tactic(auto, unfolding(sim_text_grammar::specs::Waveforms::condition))]
 fn condition(
     alloc: Global,
-    tokens: &mut Cursor,
+    tokens: &mut Cursor<'_>,
     waveform: Waveform,
 ) -> Result<ConditionalWaveform, ParseError>
-    ensures { Reads (spec.condition waveform (view tokens.old)) result (view tokens.new) }
+    ensures { Reads (spec.condition waveform tokens.old) result tokens.new }
 {
     let condition = expression(alloc, tokens)?;
     Ok(ConditionalWaveform {
@@ -126,8 +125,8 @@ fn condition(
 
 /// `conds = wave | wave when expr {else wave when expr} [else wave]`
 #[tactic(auto, unfolding(sim_text_grammar::specs::Waveforms::waveforms, sim_text_grammar::specs::Readers::left))]
-fn waveforms(alloc: Global, tokens: &mut Cursor) -> Result<ConditionalWaveforms, ParseError>
-    ensures { Reads (spec.waveforms (view tokens.old)) result (view tokens.new) }
+fn waveforms(alloc: Global, tokens: &mut Cursor<'_>) -> Result<ConditionalWaveforms, ParseError>
+    ensures { Reads (spec.waveforms tokens.old) result tokens.new }
 {
     let mut conditional = Vec::new(alloc);
     for _turn in 0..tokens.left() {
@@ -151,8 +150,11 @@ fn waveforms(alloc: Global, tokens: &mut Cursor) -> Result<ConditionalWaveforms,
 }
 
 /// Reads conditional waveforms, and the semicolon after them.
-fn waveforms_ended(alloc: Global, tokens: &mut Cursor) -> Result<ConditionalWaveforms, ParseError>
-    ensures { Reads (and_then (spec.waveforms (view tokens.old)) (λ found i. and_then (expect k.Semicolon i) (λ _. pure found))) result (view tokens.new) }
+fn waveforms_ended(
+    alloc: Global,
+    tokens: &mut Cursor<'_>,
+) -> Result<ConditionalWaveforms, ParseError>
+    ensures { Reads (and_then (spec.waveforms tokens.old) (λ found i. and_then (expect k.Semicolon i) (λ _. pure found))) result tokens.new }
 {
     let waveforms = waveforms(alloc, tokens)?;
     tokens.past(Kind::Semicolon, waveforms)
@@ -162,12 +164,12 @@ fn waveforms_ended(alloc: Global, tokens: &mut Cursor) -> Result<ConditionalWave
 /// 1076-2008, 11.6).
 pub fn assigned(
     alloc: Global,
-    tokens: &mut Cursor,
+    tokens: &mut Cursor<'_>,
     label: Option<Name>,
     postponed: bool,
     target: Name,
 ) -> Result<ConcurrentSignalAssignment, ParseError>
-    ensures { Reads (spec.assigned label postponed target (view tokens.old)) result (view tokens.new) }
+    ensures { Reads (spec.assigned label postponed target tokens.old) result tokens.new }
 {
     let mechanism = assigned_after(tokens)?;
     let (delay, waveforms) = both(mechanism, waveforms_ended(alloc, tokens))?;

@@ -2,7 +2,7 @@
 
 use crate::line::Line;
 use crate::written::waveforms::unit_name;
-use sim_text::{Kind, tokens};
+use sim_text::{Kind, MOST_BYTES, lexemes_within};
 use sim_text_grammar::ParseError;
 use sim_text_reader::Cursor;
 use std::alloc::Global;
@@ -76,14 +76,8 @@ static CALLS: [(&str, &[Step], &str); 18] = [
     ),
 ];
 
-/// A cursor at the front of a text.
-pub fn cursor_of(alloc: Global, text: &str) -> Result<Cursor, Fail> {
-    let tokens = tokens(alloc, text.as_bytes())?;
-    Ok(Cursor::new(tokens))
-}
-
 /// Appends the name that the cursor reads, or its error.
-fn put_word(line: &mut Line, tokens: &mut Cursor) {
+fn put_word(line: &mut Line, tokens: &mut Cursor<'_>) {
     match tokens.word() {
         Ok(name) => line.put_name(&name),
         Err(error) => line.put_refusal(error),
@@ -91,7 +85,7 @@ fn put_word(line: &mut Line, tokens: &mut Cursor) {
 }
 
 /// Appends the digits that the cursor reads, or its error.
-fn put_number(line: &mut Line, tokens: &mut Cursor) {
+fn put_number(line: &mut Line, tokens: &mut Cursor<'_>) {
     match tokens.number() {
         Ok((digits, at)) => line.put_digits(digits.as_slice(), at),
         Err(error) => line.put_refusal(error),
@@ -99,7 +93,7 @@ fn put_number(line: &mut Line, tokens: &mut Cursor) {
 }
 
 /// Appends the literal that the cursor reads, or its error.
-fn put_literal(line: &mut Line, tokens: &mut Cursor) {
+fn put_literal(line: &mut Line, tokens: &mut Cursor<'_>) {
     match tokens.literal() {
         Ok((value, at)) => line.put_literal(value, at),
         Err(error) => line.put_refusal(error),
@@ -107,7 +101,7 @@ fn put_literal(line: &mut Line, tokens: &mut Cursor) {
 }
 
 /// Appends the unit of time that the cursor reads, or its error.
-fn put_unit(line: &mut Line, tokens: &mut Cursor) {
+fn put_unit(line: &mut Line, tokens: &mut Cursor<'_>) {
     match tokens.unit() {
         Ok(unit) => line.put(unit_name(unit)),
         Err(error) => line.put_refusal(error),
@@ -131,13 +125,13 @@ fn put_expected(line: &mut Line, answer: Result<usize, ParseError>) {
 }
 
 /// Whether everything the cursor says of the next token agrees with this kind.
-fn shows(tokens: &Cursor, kind: Kind) -> bool {
+fn shows(tokens: &Cursor<'_>, kind: Kind) -> bool {
     let is_end = kind == Kind::EndOfText;
     tokens.peek() == kind && tokens.sees(kind) && tokens.is_empty() == is_end
 }
 
 /// Makes one call of a cursor, and appends its answer.
-fn put_step(line: &mut Line, tokens: &mut Cursor, step: Step) {
+fn put_step(line: &mut Line, tokens: &mut Cursor<'_>, step: Step) {
     match step {
         Step::Word => put_word(line, tokens),
         Step::Number => put_number(line, tokens),
@@ -154,7 +148,9 @@ fn put_step(line: &mut Line, tokens: &mut Cursor, step: Step) {
 
 /// The answers of these calls at the front of a text.
 fn answers(alloc: Global, text: &str, steps: &[Step]) -> Result<String, Fail> {
-    let mut tokens = cursor_of(alloc, text)?;
+    let source = text.as_bytes();
+    let lexemes = lexemes_within(alloc, source, MOST_BYTES)?;
+    let mut tokens = Cursor::new(alloc, source, lexemes.as_slice());
     let mut line = Line::new(alloc);
     for step in steps {
         put_step(&mut line, &mut tokens, *step);

@@ -1,11 +1,11 @@
 //! Readers of parts of a text: the tree that each reads, as a line, and the number of tokens left.
 
-use crate::cursors::cursor_of;
 use crate::line::Line;
 use crate::written::declarations::{put_declarations, put_ports, put_variables};
 use crate::written::expressions::put_expression;
 use crate::written::statements::put_statements;
 use crate::written::waveforms::{put_assignment, put_delay, put_time, put_waveform};
+use sim_text::{MOST_BYTES, lexemes_within};
 use sim_text_grammar::ParseError;
 use sim_text_reader::Cursor;
 use sim_text_reader::declarations::{declarations, names, ports, repeated, variables};
@@ -162,7 +162,7 @@ static PARTS: [(Part, &str, &str, usize); 48] = [
 ];
 
 /// Appends the expression that is read, or the error.
-fn put_expression_read(line: &mut Line, alloc: Global, tokens: &mut Cursor) {
+fn put_expression_read(line: &mut Line, alloc: Global, tokens: &mut Cursor<'_>) {
     match expression(alloc, tokens) {
         Ok(tree) => put_expression(line, &tree),
         Err(error) => line.put_refusal(error),
@@ -170,7 +170,7 @@ fn put_expression_read(line: &mut Line, alloc: Global, tokens: &mut Cursor) {
 }
 
 /// Appends the offset of the expression that is read, or the error.
-fn put_start(line: &mut Line, alloc: Global, tokens: &mut Cursor) {
+fn put_start(line: &mut Line, alloc: Global, tokens: &mut Cursor<'_>) {
     match expression(alloc, tokens) {
         Ok(tree) => line.put_number(tree.start()),
         Err(error) => line.put_refusal(error),
@@ -178,7 +178,7 @@ fn put_start(line: &mut Line, alloc: Global, tokens: &mut Cursor) {
 }
 
 /// Appends the waveform that is read, or the error.
-fn put_waveform_read(line: &mut Line, alloc: Global, tokens: &mut Cursor) {
+fn put_waveform_read(line: &mut Line, alloc: Global, tokens: &mut Cursor<'_>) {
     match waveform(alloc, tokens) {
         Ok(tree) => put_waveform(line, tree.as_slice()),
         Err(error) => line.put_refusal(error),
@@ -186,7 +186,7 @@ fn put_waveform_read(line: &mut Line, alloc: Global, tokens: &mut Cursor) {
 }
 
 /// Appends the time that is read, or the error.
-fn put_time_read(line: &mut Line, tokens: &mut Cursor) {
+fn put_time_read(line: &mut Line, tokens: &mut Cursor<'_>) {
     match time(tokens) {
         Ok(tree) => put_time(line, &tree),
         Err(error) => line.put_refusal(error),
@@ -194,7 +194,7 @@ fn put_time_read(line: &mut Line, tokens: &mut Cursor) {
 }
 
 /// Appends the delay mechanism that is read, or the error.
-fn put_delay_read(line: &mut Line, tokens: &mut Cursor) {
+fn put_delay_read(line: &mut Line, tokens: &mut Cursor<'_>) {
     match delay(tokens) {
         Ok(tree) => put_delay(line, &tree),
         Err(error) => line.put_refusal(error),
@@ -202,7 +202,7 @@ fn put_delay_read(line: &mut Line, tokens: &mut Cursor) {
 }
 
 /// Appends the assignment that is read after its target, or the error.
-fn put_assigned(line: &mut Line, alloc: Global, tokens: &mut Cursor, target: Name) {
+fn put_assigned(line: &mut Line, alloc: Global, tokens: &mut Cursor<'_>, target: Name) {
     match assigned(alloc, tokens, None, false, target) {
         Ok(tree) => put_assignment(line, &tree),
         Err(error) => line.put_refusal(error),
@@ -210,7 +210,7 @@ fn put_assigned(line: &mut Line, alloc: Global, tokens: &mut Cursor, target: Nam
 }
 
 /// Appends the names that are read, or the error.
-fn put_names_read(line: &mut Line, alloc: Global, tokens: &mut Cursor) {
+fn put_names_read(line: &mut Line, alloc: Global, tokens: &mut Cursor<'_>) {
     match names(alloc, tokens) {
         Ok(tree) => line.put_names(tree.as_slice()),
         Err(error) => line.put_refusal(error),
@@ -218,7 +218,7 @@ fn put_names_read(line: &mut Line, alloc: Global, tokens: &mut Cursor) {
 }
 
 /// Appends the port clause that is read, or the error.
-fn put_ports_read(line: &mut Line, alloc: Global, tokens: &mut Cursor) {
+fn put_ports_read(line: &mut Line, alloc: Global, tokens: &mut Cursor<'_>) {
     match ports(alloc, tokens) {
         Ok(tree) => put_ports(line, tree.as_slice()),
         Err(error) => line.put_refusal(error),
@@ -226,7 +226,7 @@ fn put_ports_read(line: &mut Line, alloc: Global, tokens: &mut Cursor) {
 }
 
 /// Appends the variable declarations that are read, or the error.
-fn put_variables_read(line: &mut Line, alloc: Global, tokens: &mut Cursor) {
+fn put_variables_read(line: &mut Line, alloc: Global, tokens: &mut Cursor<'_>) {
     match variables(alloc, tokens) {
         Ok(tree) => put_variables(line, tree.as_slice()),
         Err(error) => line.put_refusal(error),
@@ -234,7 +234,7 @@ fn put_variables_read(line: &mut Line, alloc: Global, tokens: &mut Cursor) {
 }
 
 /// Appends the declarations that are read, or the error.
-fn put_declarations_read(line: &mut Line, alloc: Global, tokens: &mut Cursor) {
+fn put_declarations_read(line: &mut Line, alloc: Global, tokens: &mut Cursor<'_>) {
     match declarations(alloc, tokens) {
         Ok(tree) => put_declarations(line, tree.as_slice()),
         Err(error) => line.put_refusal(error),
@@ -242,7 +242,7 @@ fn put_declarations_read(line: &mut Line, alloc: Global, tokens: &mut Cursor) {
 }
 
 /// Appends the sequential statements that are read, or the error.
-fn put_statements_read(line: &mut Line, alloc: Global, tokens: &mut Cursor) {
+fn put_statements_read(line: &mut Line, alloc: Global, tokens: &mut Cursor<'_>) {
     match statements(alloc, tokens) {
         Ok(tree) => put_statements(line, tree.as_slice()),
         Err(error) => line.put_refusal(error),
@@ -258,7 +258,7 @@ fn put_answer(line: &mut Line, answer: Result<bool, ParseError>) {
 }
 
 /// Reads a part that begins with a name.
-fn put_named(line: &mut Line, alloc: Global, tokens: &mut Cursor, part: Part) {
+fn put_named(line: &mut Line, alloc: Global, tokens: &mut Cursor<'_>, part: Part) {
     match tokens.word() {
         Ok(name) => match part {
             Part::Assigned => put_assigned(line, alloc, tokens, name),
@@ -269,7 +269,7 @@ fn put_named(line: &mut Line, alloc: Global, tokens: &mut Cursor, part: Part) {
 }
 
 /// Reads a part of a text, and appends the result.
-fn put_part(line: &mut Line, alloc: Global, tokens: &mut Cursor, part: Part) {
+fn put_part(line: &mut Line, alloc: Global, tokens: &mut Cursor<'_>, part: Part) {
     match part {
         Part::Expression => put_expression_read(line, alloc, tokens),
         Part::Start => put_start(line, alloc, tokens),
@@ -289,7 +289,9 @@ fn put_part(line: &mut Line, alloc: Global, tokens: &mut Cursor, part: Part) {
 
 /// The result at the front of a text, and the number of tokens left.
 fn read(alloc: Global, text: &str, part: Part) -> Result<(String, usize), Fail> {
-    let mut tokens = cursor_of(alloc, text)?;
+    let source = text.as_bytes();
+    let lexemes = lexemes_within(alloc, source, MOST_BYTES)?;
+    let mut tokens = Cursor::new(alloc, source, lexemes.as_slice());
     let mut line = Line::new(alloc);
     put_part(&mut line, alloc, &mut tokens, part);
     Ok((line.whole()?, tokens.left()))

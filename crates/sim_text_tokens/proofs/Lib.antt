@@ -6,4 +6,5 @@ pub mod Longest
 pub mod Cuts
 pub mod WordTexts
 pub mod Turns
+pub mod Places
 pub mod Order

@@ -2,7 +2,6 @@
 use Rattle.std.proofs.Common.{◌≡◌, ℕ, zero, suc, ◌+◌, ◌≤◌, ◌<◌, ◌⊎◌, inl, inr, Bool, true, false, List, [], ◌∷◌, ◌++◌, length, take, drop, map}
 use Rattle.std.proofs.Common.{Option, Some, None, refl, sym, ap, subst, arith, length-append, length-drop}
 use Rattle.std.specs.List.{list_all, AllByRecursion}
-use Rattle.std.specs.Str.{bytes_eq}
 use Rattle.std.specs.Char.{to_ascii_lowercase}
 use Rattle.sim_text_tokens.specs.declared.class.Class.{Class}
 use Rattle.sim_text_tokens.specs.declared.class.Class.TheVariants as class
@@ -13,7 +12,7 @@ use Rattle.sim_text_tokens.specs.declared.error.TextError.{TextError}
 use Rattle.sim_text_tokens.specs.Pieces.{Text, is_piece, token_of, kind_in, delimiters, reserved_words, word_token, delimiter_token}
 use Rattle.sim_text_tokens.specs.Cutting.{Piece, joined, name_after, AreLongest, placed, tokens_from, AreTokens, AreInOrder, IsLexicalFault, fault_at}
 use Rattle.sim_text_tokens.specs.Scan.{Extent, piece_at}
-use Rattle.sim_text_tokens.proofs.Tests.{by_cases, and_both}
+use Rattle.sim_text_tokens.proofs.Tests.{kind_passes}
 use Rattle.sim_text_tokens.proofs.Classes.{not_empty}
 use Rattle.std.proofs.lemmas.List.{take-append-drop}
 use Rattle.sim_text_tokens.proofs.Cuts.{SoFar, none_yet, extent_inside, longest_at, none_at, one_more}
@@ -54,16 +53,6 @@ kept : (k : Kind) → is_kept k ≡ true → k ≡ kind.EndOfText → ⊥
 unfolding is_kept
 kept k h e = let f : is_kept k ≡ false = rw e refl in absurd cc
 
--- a kind found in a table whose kinds all pass a test passes it too
-kind_found : (table : List (Text × Kind)) (bytes : Text) (k : Kind) → list_all (λ (e : Text × Kind). is_kept e.1) table ≡ true
-    → kind_in table bytes ≡ Some k → is_kept k ≡ true
-kind_found [] bytes k all h = absurd cc
-kind_found (e ∷ table) bytes k all h = by_cases (bytes_eq e.0 bytes)
-    (λ t. let found : Some e.1 ≡ Some k = rw t at h in
-    let same : e.1 ≡ k = cc in
-    rw (← same) (and_both (is_kept e.1) _ all).0)
-    (λ f. kind_found table bytes k (and_both (is_kept e.1) _ all).1 (rw f at h))
-
 reserved_kept : list_all (λ (e : Text × Kind). is_kept e.1) reserved_words ≡ true
 unfolding is_kept reserved_words
 reserved_kept = refl
@@ -89,7 +78,7 @@ token_kept class.Separator bytes token e = absurd cc
 token_kept class.Comment bytes token e = absurd cc
 token_kept class.Word bytes token e =
     let same : word_token (kind_in reserved_words (map to_ascii_lowercase bytes)) (map to_ascii_lowercase bytes) ≡ token = cc in
-    rw (← same) (word_kept _ (map to_ascii_lowercase bytes) (λ k h. kind_found reserved_words (map to_ascii_lowercase bytes) k reserved_kept h))
+    rw (← same) (word_kept _ (map to_ascii_lowercase bytes) (λ k h. kind_passes is_kept reserved_words (map to_ascii_lowercase bytes) k reserved_kept h))
 token_kept class.Number bytes token e = let same : kind.Number ≡ token.0 = ap (λ o. kind_or o) e in rw (← same) refl
   where
     kind_or : Option (Kind × Text) → Kind
@@ -97,7 +86,7 @@ token_kept class.Number bytes token e = let same : kind.Number ≡ token.0 = ap 
     kind_or (Some t) = t.0
 token_kept class.Literal bytes token e = let same : (kind.Literal, take 1 (drop 1 bytes)) ≡ token = cc in rw (← same) refl
 token_kept class.Tick bytes token e = let same : (kind.Tick, []) ≡ token = cc in rw (← same) refl
-token_kept class.Delimiter bytes token e = delimiter_kept (kind_in delimiters bytes) token (λ k h. kind_found delimiters bytes k delimiters_kept h) e
+token_kept class.Delimiter bytes token e = delimiter_kept (kind_in delimiters bytes) token (λ k h. kind_passes is_kept delimiters bytes k delimiters_kept h) e
 
 placed_kept : (start end : ℕ) (o : Option (Kind × Text)) (ts : List Token) → ((token : Kind × Text) → o ≡ Some token → is_kept token.0 ≡ true)
     → AllByRecursion (λ t. t.kind ≡ kind.EndOfText → ⊥) ts → AllByRecursion (λ t. t.kind ≡ kind.EndOfText → ⊥) (placed start end o ++ ts)

@@ -1,16 +1,15 @@
 -- One iteration of the lexer's loop.
-use Rattle.std.proofs.Common.{◌≡◌, ℕ, suc, ◌+◌, ◌-◌, ◌≤◌, ◌<◌, Bool, List, [], ◌∷◌, ◌++◌, length, get_or, take, drop, Option, Some, None, IsTrue, sym}
+use Rattle.std.proofs.Common.{◌≡◌, ℕ, suc, ◌+◌, ◌-◌, ◌≤◌, ◌<◌, Bool, List, [], ◌∷◌, ◌++◌, length, get_or, take, drop, Option, Some, None, sym}
 use Rattle.std.proofs.Common.{ap, subst, ◌∙◌, arith}
 use Rattle.std.proofs.Math.Seq.{take-length}
 use Rattle.std.proofs.lemmas.List.{take-append-drop, length-take-le, append-nil}
 use Rattle.sim_text_tokens.specs.declared.class.Class.{Class}
 use Rattle.sim_text_tokens.specs.declared.kind.Kind.{Kind}
-use Rattle.sim_text_tokens.specs.Token.{Token, HasWord}
+use Rattle.sim_text_tokens.specs.Token.{Token}
 use Rattle.sim_text_tokens.specs.declared.error.TextError.{TextError}
-use Rattle.sim_text_tokens.specs.Pieces.{Text, is_piece, token_of}
+use Rattle.sim_text_tokens.specs.Pieces.{Text, token_of}
 use Rattle.sim_text_tokens.specs.Cutting.{is_name, name_after, IsLongest, placed, IsLexicalFault, fault_at}
 use Rattle.sim_text_tokens.specs.Scan.{Extent, piece_at}
-use Rattle.sim_text_tokens.proofs.WordTexts.{has_word}
 use Rattle.sim_text_tokens.proofs.Cuts.{SoFar, extent_inside, longest_at, none_at, one_more}
 
 -- the first byte of a text, and the bytes after it
@@ -43,16 +42,6 @@ module _ (source : Text) (tokens : List Token) (after_name : Bool) (at : ℕ) (t
 
   pub moves : (c : Class) (n : ℕ) → Some (c, n) ≡ piece_at after_name (first_byte text) (after_first text) → 0 < n
   moves c n e = (extent_inside after_name (first_byte text) (after_first text) (c, n) (sym e)).0
-
-  stands : (c : Class) (n : ℕ) → Some (c, n) ≡ piece_at after_name (first_byte text) (after_first text) → IsTrue (is_piece after_name c (take n text))
-  stands c n e = let whole = first_and_rest text filled in
-      subst (λ (t : Text). IsTrue (is_piece after_name c (take n t))) whole (longest_at after_name (first_byte text) (after_first text) c n (sym e)).stands
-
-  -- if the token of the piece is a word, its text is one
-  pub new_token : (c : Class) (n : ℕ) (front : Text) (token : Option (Kind × Text)) → Some (c, n) ≡ piece_at after_name (first_byte text) (after_first text) →
-      front ≡ take n text → token ≡ token_of c front → (k : Kind) (x : Text) → token ≡ Some (k, x) → HasWord k x
-  new_token c n front token e f t k x some =
-      has_word after_name c (take n text) k x (stands c n e) (ap (token_of c) (sym f) ∙ sym t ∙ some)
 
   turn : (c : Class) (n : ℕ) → Some (c, n) ≡ piece_at after_name (first_byte text) (after_first text) →
       SoFar source (tokens ++ placed at (at + n) (token_of c (take n text))) (name_after after_name (token_of c (take n text))) (at + n) (drop n text)

@@ -1,4 +1,5 @@
 pub mod Cutting
+pub mod Lexemes
 pub mod Limits
 pub mod Pieces
 pub mod Scan

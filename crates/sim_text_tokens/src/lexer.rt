@@ -1,25 +1,25 @@
 //! Divides a text into tokens.
 
-ghost use Rattle.std.specs.Prelude.{◌≡◌, ◌<◌, ◌↔◌, ◌≢◌, ◌==◌, not, length, take, drop, map, filter, IfOk, IfErr, Err};
+ghost use Rattle.std.specs.Prelude.{◌≡◌, ◌<◌, ◌↔◌, ◌≢◌, ◌∷◌, [], ◌++◌, length, map, IfOk, IfErr, OnOk, Err};
 ghost use Rattle.std.specs.Char.{to_ascii_lowercase};
 ghost use Rattle.sim_text_tokens.specs.Pieces as pieces;
 ghost use Rattle.sim_text_tokens.specs.Cutting as cutting;
 ghost use Rattle.sim_text_tokens.specs.Cutting.{AreTokens, IsLexicalFault};
+ghost use Rattle.sim_text_tokens.specs.Lexemes as spec;
+ghost use Rattle.sim_text_tokens.specs.Lexemes.{tokens_at};
 ghost use Rattle.sim_text_tokens.specs.Limits.{most_bytes};
 
 use crate::class::Class;
 use crate::error::TextError;
 use crate::kind::Kind;
+use crate::lexeme::Lexeme;
 use crate::scan::piece_at;
 use crate::token::Token;
 use crate::words::{double_delimiter, reserved_word, single_delimiter};
-use sqlite_items::Items;
 use std::alloc::{AllocError, Global};
 
 /// The largest length of a text, in bytes.
 pub const MOST_BYTES: usize = 1_048_576;
-
-type KindAndText = (Kind, Items<u8>);
 
 /// The kind of a delimiter.
 fn delimiter_kind(bytes: &[u8]) -> Option<Kind>
@@ -32,50 +32,29 @@ fn delimiter_kind(bytes: &[u8]) -> Option<Kind>
     }
 }
 
-/// A reserved word, or a name with its text.
-fn word_token(alloc: Global, bytes: &[u8]) -> Result<KindAndText, AllocError>
-    ensures { IfOk result (λ t. t ≡ pieces.word_token
+/// The kind of a word: a reserved word, or a name.
+fn word_kind(bytes: &[u8]) -> Kind
+    ensures { result ≡ (pieces.word_token
         (pieces.kind_in pieces.reserved_words (map to_ascii_lowercase bytes.now))
-        (map to_ascii_lowercase bytes.now)) }
+        (map to_ascii_lowercase bytes.now)).0 }
 {
     match reserved_word(bytes) {
-        Some(kind) => Ok((kind, Items::new(alloc))),
-        None => {
-            let word = bytes.to_ascii_lowercase(alloc)?;
-            Ok((Kind::Word, Items::from_vec(word)))
-        }
+        Some(kind) => kind,
+        None => Kind::Word,
     }
 }
 
-/// The digits of a number.
-fn number_text(alloc: Global, bytes: &[u8]) -> Result<Items<u8>, AllocError>
-    ensures { IfOk result (λ t. t ≡ filter (λ b. not (b == 95)) bytes.now) }
-{
-    let digits: Vec<u8> = bytes.iter().copied().filter(|b| *b != b'_').collect(alloc)?;
-    Ok(Items::from_vec(digits))
-}
-
-/// The byte between the apostrophes.
-fn literal_text(alloc: Global, bytes: &[u8]) -> Result<Items<u8>, AllocError>
-    ensures { IfOk result (λ t. t ≡ take 1 (drop 1 bytes.now)) }
-{
-    match bytes {
-        [_, value, ..] => Items::from_slice(alloc, &[*value]),
-        _ => Ok(Items::new(alloc)),
-    }
-}
-
-/// The kind and text of the token that a piece is; `None` for a separator or a comment.
-fn token_of(alloc: Global, class: Class, bytes: &[u8]) -> Result<Option<KindAndText>, AllocError>
-    ensures { IfOk result (λ t. t ≡ pieces.token_of class bytes.now) }
+/// The kind of the token that a piece is; `None` for a separator or a comment.
+fn kind_of(class: Class, bytes: &[u8]) -> Option<Kind>
+    ensures { result ≡ spec.kind_of class bytes.now }
 {
     match class {
-        Class::Separator | Class::Comment => Ok(None),
-        Class::Word => Ok(Some(word_token(alloc, bytes)?)),
-        Class::Number => Ok(Some((Kind::Number, number_text(alloc, bytes)?))),
-        Class::Literal => Ok(Some((Kind::Literal, literal_text(alloc, bytes)?))),
-        Class::Tick => Ok(Some((Kind::Tick, Items::new(alloc)))),
-        Class::Delimiter => Ok(delimiter_kind(bytes).map(|kind| (kind, Items::new(alloc)))),
+        Class::Separator | Class::Comment => None,
+        Class::Word => Some(word_kind(bytes)),
+        Class::Number => Some(Kind::Number),
+        Class::Literal => Some(Kind::Literal),
+        Class::Tick => Some(Kind::Tick),
+        Class::Delimiter => delimiter_kind(bytes),
     }
 }
 
@@ -97,12 +76,21 @@ fn fault_at(at: usize, byte: u8, rest: &[u8]) -> TextError
     }
 }
 
-/// Divides a text of any length into tokens.
-fn cut(alloc: Global, source: &[u8]) -> Result<Vec<Token>, TextError>
-    ensures found { IfOk result (λ v. AreTokens source.now v.items) }
+/// Adds a token of this kind, from `start` to before `end`. It finds no memory beyond 4 GiB.
+fn add(lexemes: &mut Vec<Lexeme>, kind: Kind, start: usize, end: usize) -> Result<(), AllocError>
+    ensures { OnOk result (lexemes.new.items ≡ lexemes.old.items ++ record { kind = kind; start = start; end = end } ∷ []) }
+{
+    let lexeme = Lexeme::new(kind, start, end).ok_or(AllocError)?;
+    lexemes.push(lexeme)?;
+    Ok(())
+}
+
+/// Divides a text into tokens. `Memory` beyond 4 GiB, too.
+fn cut(alloc: Global, source: &[u8]) -> Result<Vec<Lexeme>, TextError>
+    ensures found { IfOk result (λ v. AreTokens source.now (tokens_at source.now v.items)) }
     ensures fault { IfErr result (λ e. e ≢ TextError.Memory → IsLexicalFault source.now e) }
 {
-    let mut tokens = Vec::new(alloc);
+    let mut lexemes = Vec::new(alloc);
     let mut after_name = false;
     let mut at = 0;
     let mut text = source;
@@ -112,32 +100,55 @@ fn cut(alloc: Global, source: &[u8]) -> Result<Vec<Token>, TextError>
         };
         let (bytes, after) = text.split_at(len);
         let end = at + len;
-        if let Some((kind, text)) = token_of(alloc, class, bytes)? {
+        if let Some(kind) = kind_of(class, bytes) {
             after_name = is_name(kind);
-            tokens.push(Token::new(kind, text, at, end))?;
+            add(&mut lexemes, kind, at, end)?;
         }
         at = end;
         text = after;
     }
-    Ok(tokens)
+    Ok(lexemes)
 }
 
-/// The tokens of a text, from left to right, each the longest possible at its place (IEEE
-/// 1076-2008, 15.3).
+/// The tokens of a text by their places, from left to right, each the longest possible at its place
+/// (IEEE 1076-2008, 15.3).
 ///
 /// Separators and comments between tokens are dropped, and no separator is required between two
 /// tokens. An apostrophe after a word that is not reserved is a tick; elsewhere it begins a
 /// character literal. `TooLong`, if the text has more than `bytes` bytes, takes precedence, then the
 /// leftmost of the other faults; `Memory` if an allocation fails before that one is reached.
-pub fn tokens_within(alloc: Global, source: &[u8], bytes: usize) -> Result<Vec<Token>, TextError>
+pub fn lexemes_within(alloc: Global, source: &[u8], bytes: usize) -> Result<Vec<Lexeme>, TextError>
     ensures too_long { (result ≡ Err TextError.TooLong) ↔ (bytes < length source.now) }
-    ensures found { IfOk result (λ v. AreTokens source.now v.items) }
+    ensures found { IfOk result (λ v. AreTokens source.now (tokens_at source.now v.items)) }
     ensures fault { IfErr result (λ e. e ≢ TextError.Memory → e ≢ TextError.TooLong → IsLexicalFault source.now e) }
 {
     if source.len() > bytes {
         return Err(TextError::TooLong);
     }
     cut(alloc, source)
+}
+
+/// These tokens, each with its own text.
+fn with_texts(alloc: Global, source: &[u8], lexemes: &[Lexeme]) -> Result<Vec<Token>, AllocError>
+    requires { AreTokens source.now (tokens_at source.now lexemes.now) }
+    ensures { IfOk result (λ v. v.items ≡ tokens_at source.now lexemes.now) }
+{
+    let mut tokens = Vec::with_capacity(alloc, lexemes.len())?;
+    for lexeme in lexemes {
+        tokens.push(lexeme.to_token(alloc, source)?)?;
+    }
+    Ok(tokens)
+}
+
+/// The tokens of a text with their own texts; refusals as those of `lexemes_within`.
+pub fn tokens_within(alloc: Global, source: &[u8], bytes: usize) -> Result<Vec<Token>, TextError>
+    ensures too_long { (result ≡ Err TextError.TooLong) ↔ (bytes < length source.now) }
+    ensures found { IfOk result (λ v. AreTokens source.now v.items) }
+    ensures fault { IfErr result (λ e. e ≢ TextError.Memory → e ≢ TextError.TooLong → IsLexicalFault source.now e) }
+{
+    let lexemes = lexemes_within(alloc, source, bytes)?;
+    let tokens = with_texts(alloc, source, lexemes.as_slice())?;
+    Ok(tokens)
 }
 
 /// The tokens of a text of at most 1,048,576 bytes.

@@ -5,6 +5,7 @@ mod class;
 mod error;
 mod kind;
 pub mod laws;
+mod lexeme;
 mod lexer;
 mod scan;
 mod token;
@@ -12,5 +13,6 @@ mod words;
 
 pub use error::TextError;
 pub use kind::Kind;
-pub use lexer::{MOST_BYTES, tokens, tokens_within};
+pub use lexeme::Lexeme;
+pub use lexer::{MOST_BYTES, lexemes_within, tokens, tokens_within};
 pub use token::Token;

@@ -1,7 +1,6 @@
 use Rattle.std.proofs.Common.{arith}
 use Rattle.std.proofs.lemmas.Grind.{common_steps}
 use Rattle.sim_text_grammar.specs.Readers.{sees}
-use Rattle.sim_text_reader.specs.Cursors.{view}
 use Rattle.sim_text_tree.proofs.Turns.{deeper}
 use Rattle.sim_text_grammar.proofs.OneItemATurn.{one_more, no_more}
 use Rattle.sim_text_grammar.specs.Expressions.{nested, relation}
@@ -25,13 +24,13 @@ more_operands-returns t c = let e = no_more c.loop-turn.invariant c.loop-turn-te
 pub nested-returns : goal.nested-returns
 unfolding nested
 nested-returns t c =
-    let e = deeper (λ n. nested n (view c.args.tokens.now)) c.args.depth (omega arith) in
+    let e = deeper (λ n. nested n c.args.tokens.now) c.args.depth (omega arith) in
     grind (arith, common_steps)
 
 pub nested-returns-in_err-inner : goal.nested-returns-in_err-inner
 unfolding nested
 nested-returns-in_err-inner t c =
-    let e = deeper (λ n. nested n (view c.args.tokens.now)) c.args.depth (omega arith) in
+    let e = deeper (λ n. nested n c.args.tokens.now) c.args.depth (omega arith) in
     grind (arith, common_steps)
 
 pub relation-returns-in-Unequal : goal.relation-returns-in-Unequal

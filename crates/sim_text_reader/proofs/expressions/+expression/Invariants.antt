@@ -1,5 +1,4 @@
 use Rattle.std.proofs.Common.{true, [], ◌∷◌, ◌+◌, ◌*◌}
-use Rattle.sim_text_reader.specs.Cursors.{view}
 use Rattle.sim_text_grammar.proofs.OneItemATurn.{AsManyAsCome}
 use Rattle.sim_text_grammar.specs.Expressions.{nested, more_operands, operand, goes_on}
 use Rattle.sim_text_reader.proofs.expressions.+expression.Given as goal
@@ -38,5 +37,5 @@ abbrev pub decreases-expression_in : goal.decreases-expression_in
 decreases-expression_in l = 11 * l.depth + 10
 
 abbrev pub invariant-more_operands-loop-turn : goal.invariant-more_operands-loop-turn
-invariant-more_operands-loop-turn l = AsManyAsCome (more_operands (nested l.depth) true l.operator (l.fn.second ∷ []) (view l.fn.tokens))
-    (goes_on l.operator) (operand (nested l.depth)) l._turn-end l._turn l.found.items (view l.tokens)
+invariant-more_operands-loop-turn l = AsManyAsCome (more_operands (nested l.depth) true l.operator (l.fn.second ∷ []) l.fn.tokens)
+    (goes_on l.operator) (operand (nested l.depth)) l._turn-end l._turn l.found.items l.tokens

@@ -2,7 +2,6 @@ use Rattle.std.proofs.Common.{arith}
 use Rattle.std.proofs.lemmas.Grind.{common_steps}
 use Rattle.sim_text_tree.proofs.Turns.{deeper}
 use Rattle.sim_text_grammar.proofs.OneItemATurn.{one_more, no_more, one_after, none_after}
-use Rattle.sim_text_reader.specs.Cursors.{view}
 use Rattle.sim_text_grammar.specs.Statements.{if_statement}
 use Rattle.sim_text_reader.proofs.statements.+statement.Goals as goal
 use Rattle.sim_text_grammar.proofs.Parts.{halves}
@@ -35,19 +34,19 @@ branches-returns t c = let e = none_after c.loop-turn.invariant c.loop-turn-test
 pub if_statement-returns-in_err-branches : goal.if_statement-returns-in_err-branches
 unfolding if_statement
 if_statement-returns-in_err-branches t c =
-    let e = deeper (λ n. if_statement n c.args.label.now (view c.args.tokens.now)) c.args.depth (omega arith) in
+    let e = deeper (λ n. if_statement n c.args.label.now c.args.tokens.now) c.args.depth (omega arith) in
     grind (arith, common_steps)
 
 pub if_statement-returns-in_err-otherwise : goal.if_statement-returns-in_err-otherwise
 unfolding if_statement
 if_statement-returns-in_err-otherwise t c =
-    let e = deeper (λ n. if_statement n c.args.label.now (view c.args.tokens.now)) c.args.depth (omega arith) in
+    let e = deeper (λ n. if_statement n c.args.label.now c.args.tokens.now) c.args.depth (omega arith) in
     grind (arith, common_steps)
 
 pub if_statement-returns : goal.if_statement-returns
 unfolding if_statement
 if_statement-returns t c =
-    let e = deeper (λ n. if_statement n c.args.label.now (view c.args.tokens.now)) c.args.depth (omega arith) in
+    let e = deeper (λ n. if_statement n c.args.label.now c.args.tokens.now) c.args.depth (omega arith) in
     grind (arith, common_steps)
 
 pub branches-returns-in_err-push : goal.branches-returns-in_err-push

@@ -1,6 +1,5 @@
 use Rattle.std.proofs.Common.{◌+◌, ◌*◌}
 use Rattle.sim_text_tokens.specs.declared.kind.Kind.TheVariants as k
-use Rattle.sim_text_reader.specs.Cursors.{view}
 use Rattle.sim_text_grammar.proofs.OneItemATurn.{AsManyAsCome, AfterEach}
 use Rattle.sim_text_grammar.specs.Statements.{if_statement, sequence, statement, begins_statement, branches, branch}
 use Rattle.sim_text_reader.proofs.statements.+statement.Given as goal
@@ -30,9 +29,9 @@ abbrev pub decreases-branches : goal.decreases-branches
 decreases-branches l = 9 * l.depth + 7
 
 abbrev pub invariant-sequence-loop-turn : goal.invariant-sequence-loop-turn
-invariant-sequence-loop-turn l = AsManyAsCome (sequence (if_statement l.depth) (view l.fn.tokens)) begins_statement (statement (if_statement l.depth))
-    l._turn-end l._turn l.found.items (view l.tokens)
+invariant-sequence-loop-turn l = AsManyAsCome (sequence (if_statement l.depth) l.fn.tokens) begins_statement (statement (if_statement l.depth))
+    l._turn-end l._turn l.found.items l.tokens
 
 abbrev pub invariant-branches-loop-turn : goal.invariant-branches-loop-turn
-invariant-branches-loop-turn l = AfterEach (branches (if_statement l.depth) (view l.fn.tokens)) k.Elsif (branch (if_statement l.depth)) l._turn-end l._turn
-    l.found.items (view l.tokens)
+invariant-branches-loop-turn l = AfterEach (branches (if_statement l.depth) l.fn.tokens) k.Elsif (branch (if_statement l.depth)) l._turn-end l._turn
+    l.found.items l.tokens

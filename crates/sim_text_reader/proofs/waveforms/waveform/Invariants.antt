@@ -1,8 +1,7 @@
 use Rattle.sim_text_tokens.specs.declared.kind.Kind.TheVariants as k
-use Rattle.sim_text_reader.specs.Cursors.{view}
 use Rattle.sim_text_grammar.proofs.OneItemATurn.{AfterEach}
 use Rattle.sim_text_grammar.specs.Waveforms.{waveform, element}
 use Rattle.sim_text_reader.proofs.waveforms.waveform.Given as goal
 
 abbrev pub invariant-loop-turn : goal.invariant-loop-turn
-invariant-loop-turn l = AfterEach (waveform (view l.fn.tokens)) k.Comma element l._turn-end l._turn l.found (view l.tokens)
+invariant-loop-turn l = AfterEach (waveform l.fn.tokens) k.Comma element l._turn-end l._turn l.found l.tokens

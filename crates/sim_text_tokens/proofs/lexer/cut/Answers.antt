@@ -1,14 +1,15 @@
 use Rattle.std.proofs.Common.{◌<◌, arith}
 use Rattle.std.proofs.lemmas.Grind.{common_steps}
-use Rattle.sim_text_tokens.proofs.Turns.{fault_here, moves, new_token, turn_none, turn_some}
+use Rattle.sim_text_tokens.proofs.Turns.{fault_here, moves}
+use Rattle.sim_text_tokens.proofs.Places.{next_lexeme, next_none}
 use Rattle.sim_text_tokens.proofs.lexer.cut.Goals as goal
 
 pub returns-in_default-piece_at-clause-fault : goal.returns-in_default-piece_at-clause-fault
 returns-in_default-piece_at-clause-fault c = λ _.
     fault_here _ _ _ _ _ c.loop-text.invariant c.in-len1-up.len_at_least _ _ c.piece_at.ensures.value c.in_default-piece_at.is c.fault_at.ensures
 
-pub loop-text-smaller-in_ok-push : goal.loop-text-smaller-in_ok-push
-loop-text-smaller-in_ok-push c =
+pub loop-text-smaller-in_ok-add : goal.loop-text-smaller-in_ok-add
+loop-text-smaller-in_ok-add c =
     let go : 0 < c.in-Some.len = moves _ _ _ _ _ c.loop-text.invariant c.in-len1-up.len_at_least _ _ c.in-Some.ensures.value in
     omega (arith, c.split_at.ensures.back_len)
 
@@ -17,22 +18,16 @@ loop-text-smaller c =
     let go : 0 < c.in-Some.len = moves _ _ _ _ _ c.loop-text.invariant c.in-len1-up.len_at_least _ _ c.in-Some.ensures.value in
     omega (arith, c.split_at.ensures.back_len)
 
-pub loop-text-preserved-in_ok-push : goal.loop-text-preserved-in_ok-push
-loop-text-preserved-in_ok-push c =
-    let pushed = rw (c.in_ok-push.was, c.new.ensures) at c.push.ensures.items in
-    turn_some _ _ _ _ _ c.loop-text.invariant c.in-len1-up.len_at_least _ _ _ _ _ c.in-Some.ensures.value c.split_at.ensures.front
-    c.split_at.ensures.back c.in_ok-kind.ensures
-    c.in-Some-2.kind c.in-Some-2.text c.in-Some-2.is _ pushed _
+pub loop-text-preserved-in_ok-add : goal.loop-text-preserved-in_ok-add
+loop-text-preserved-in_ok-add c =
+    next_lexeme _ _ _ _ _ c.loop-text.invariant c.in-len1-up.len_at_least _ _ _ _ _ c.in-Some.ensures.value c.split_at.ensures.front
+    c.split_at.ensures.back c.kind_of.ensures c.in-Some-kind_of.kind c.in-Some-kind_of.is _ c.in_ok-add.ensures _
     c.is_name-after_name.ensures
 
 pub loop-text-preserved : goal.loop-text-preserved
 loop-text-preserved c =
-    turn_none _ _ _ _ _ c.loop-text.invariant c.in-len1-up.len_at_least _ _ _ _ _ c.in-Some.ensures.value c.split_at.ensures.front
-    c.split_at.ensures.back c.in_ok-kind.ensures c.in_default-2.is
-
-pub new-requires : goal.new-requires
-new-requires c = new_token _ _ _ _ _ c.loop-text.invariant c.in-len1-up.len_at_least _ _ _ _ c.in-Some.ensures.value c.split_at.ensures.front
-    c.in_ok-kind.ensures c.in-Some-2.kind c.in-Some-2.text c.in-Some-2.is
+    next_none _ _ _ _ _ c.loop-text.invariant c.in-len1-up.len_at_least _ _ _ _ _ c.in-Some.ensures.value c.split_at.ensures.front
+    c.split_at.ensures.back c.kind_of.ensures c.in_default-kind_of.is
 
 pub overflow_add-end : goal.overflow_add-end
 overflow_add-end c = grind (arith, common_steps)
